@@ -1,0 +1,13 @@
+pub mod Between
+pub mod Gaps
+pub mod HalfPlane
+pub mod IntSigns
+pub mod Line
+pub mod Order
+pub mod Orientation
+pub mod Pairs
+pub mod Products
+pub mod Ring
+pub mod Rings
+pub mod Roots
+pub mod Sides

@@ -1,0 +1,6 @@
+pub mod Hull
+pub mod Length
+pub mod Plane
+pub mod PointSet
+pub mod Root
+pub mod Triangulation

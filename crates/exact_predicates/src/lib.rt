@@ -1,0 +1,16 @@
+//! Points of the plane with whole coordinates, the exact tests on them, and the lists that the
+//! crates above speak of: a set of points, its hull, its triangles.
+//! The definitions of hull, triangulation and length stand in `specs/`.
+#![tactic(auto)]
+
+mod edge;
+mod lists;
+mod point;
+mod points;
+mod tri;
+
+pub use edge::Edge;
+pub use lists::{Hull, PointList, Tris};
+pub use point::{Point, d2, in_range, orient};
+pub use points::Points;
+pub use tri::Tri;

@@ -1,0 +1,55 @@
+// A point of the plane, and the exact tests on points.
+ghost use Rattle.std.specs.Prelude.{◌≡◌, ◌↔◌, ◌*◌, ◌^◌, ◌≤◌, ◌*ℤ◌, unsigned_abs, IsTrue};
+ghost use Rattle.exact_predicates.specs.Plane.{IsInRange, orient, d2};
+
+/// A point, with the number that it has in its file. Coordinates are in scaled units.
+#[derive(Clone, Copy)]
+pub struct Point {
+    pub id: u32,
+    pub x: i64,
+    pub y: i64,
+}
+
+const LIMIT: i64 = 1_000_000_000;
+
+/// Whether no coordinate is above 10^9 in size, as the exact tests need it.
+pub fn in_range(p: &Point) -> bool
+    ensures { IsTrue result ↔ IsInRange p.now }
+{
+    -LIMIT <= p.x && p.x <= LIMIT && -LIMIT <= p.y && p.y <= LIMIT
+}
+
+/// Twice the area of the triangle `pqr`: positive where it turns to the left, 0 where the three
+/// points lie on one line.
+#[tactic(auto, unfolding(crate::specs::Plane::orient))]
+pub fn orient(p: &Point, q: &Point, r: &Point) -> i128
+    requires p_in { IsInRange p.now }
+    requires q_in { IsInRange q.now }
+    requires r_in { IsInRange r.now }
+    ensures { result ≡ orient p.now q.now r.now }
+{
+    product(q.x - p.x, r.y - p.y) - product(q.y - p.y, r.x - p.x)
+}
+
+// The product of two differences of coordinates.
+fn product(a: i64, b: i64) -> i128
+    requires a_in { unsigned_abs a ≤ 2 * 10 ^ 9 }
+    requires b_in { unsigned_abs b ≤ 2 * 10 ^ 9 }
+    ensures value { result ≡ a *ℤ b }
+    ensures bound { unsigned_abs result ≤ 4 * 10 ^ 18 }
+{
+    i128::from(a) * i128::from(b)
+}
+
+/// The squared distance, in squares of the scaled unit.
+#[tactic(auto, unfolding(crate::specs::Plane::d2))]
+pub fn d2(p: &Point, q: &Point) -> u64
+    requires p_in { IsInRange p.now }
+    requires q_in { IsInRange q.now }
+    ensures value { result ≡ d2 p.now q.now }
+    ensures bound { result ≤ 8 * 10 ^ 18 }
+{
+    let width = (q.x - p.x).unsigned_abs();
+    let height = (q.y - p.y).unsigned_abs();
+    width * width + height * height
+}

@@ -1,0 +1,10 @@
+pub mod Chains
+pub mod Corners
+pub mod Finals
+pub mod Joins
+pub mod Outlines
+pub mod Seen
+pub mod Shapes
+pub mod Steps
+pub mod Sweeps
+pub mod Wedges

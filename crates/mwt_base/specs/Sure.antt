@@ -1,0 +1,17 @@
+-- What a sink in memory keeps of what it is given.
+use Rattle.std.specs.Prelude.{ℕ, List, [], Bool, true, None, Some, if◌then◌else◌}
+use Rattle.std.specs.declared.option.Option.{Option}
+
+-- the first bytes of all that came, up to the room; whether that was all; how many came
+pub record Collected : Type 0 where
+  pub kept : List ℕ
+  pub room : ℕ
+  pub whole : Bool
+  pub count : ℕ
+
+-- it tells while all that came fitted
+abbrev pub collected_bytes : Collected → Option (List ℕ)
+collected_bytes s = if s.whole then Some s.kept else None
+
+abbrev pub nothing_collected : ℕ → Collected
+nothing_collected room = record { kept = []; room = room; whole = true; count = 0 }

@@ -1,0 +1,131 @@
+// A source and a sink in memory, of which no call fails.
+ghost use Rattle.std.specs.Prelude.{◌≡◌, ℕ, ◌<◌, ◌≤◌, Some, drop, take, length, vec_len, vec_capacity, IfOk, List};
+ghost use Rattle.mwt_base.specs.Sure.{Collected, collected_bytes, nothing_collected};
+
+use crate::{Bytes, Failed, NoMemory, Sink, Source};
+use std::alloc::Global;
+use std::marker::Model;
+
+/// A source of bytes in memory. No read of it fails.
+#[derive(Drop)]
+pub struct SureSource {
+    bytes: Bytes,
+    at: usize,
+    chunk: usize,
+}
+
+impl Model for SureSource {
+    ghost Value = { List ℕ };
+
+    ghost view = { λ s. drop s.at s.bytes };
+
+    ghost invariant = { λ s. (s.at ≤ length s.bytes) × (0 < s.chunk) };
+}
+
+impl SureSource {
+    /// A source of these bytes, at most `chunk` of them a read. Takes no memory.
+    pub fn new(bytes: Bytes, chunk: usize) -> Self
+        requires { 0 < chunk }
+        ensures { result ≡ bytes }
+    {
+        SureSource {
+            bytes,
+            at: 0,
+            chunk,
+        }
+    }
+}
+
+impl Source for SureSource {
+    ghost left = { λ s. Some s };
+
+    ghost faults = { λ s. 0 };
+
+    ghost reads = { λ s. 0 };
+
+    fn read(&mut self, buf: &mut [u8]) -> Result<usize, Failed> {
+        let count = give(&self.bytes.as_slice()[self.at..], self.chunk, buf);
+        self.at += count;
+        Ok(count)
+    }
+}
+
+// Copies as much as there is, at most a chunk.
+fn give(rest: &[u8], chunk: usize, buf: &mut [u8]) -> usize
+    requires { 0 < chunk }
+    ensures within { result ≤ length rest.now }
+    ensures room { result ≤ length buf.new }
+    ensures given { take result buf.new ≡ take result rest.now }
+    ensures end { result ≡ 0 → 0 < length buf.new → length rest.now ≡ 0 }
+{
+    let count = rest.len().min(chunk).min(buf.len());
+    buf[..count].copy_from_slice(&rest[..count]);
+    count
+}
+
+/// A sink in memory. No write to it fails: it takes all, counts it, and keeps as much of it as it has
+/// room for.
+#[derive(Drop)]
+pub struct SureSink {
+    kept: Vec<u8>,
+    room: usize,
+    whole: bool,
+    count: u64,
+}
+
+impl Model for SureSink {
+    ghost Value = { Collected };
+
+    ghost view = { λ s. record { kept = s.kept.items; room = s.room; whole = s.whole; count = s.count } };
+
+    ghost invariant = { λ s. (vec_len s.kept ≤ s.room) × (s.room ≤ vec_capacity s.kept) };
+}
+
+impl SureSink {
+    /// Takes the memory for `room` bytes, and no more later.
+    pub fn new(alloc: Global, room: usize) -> Result<SureSink, NoMemory>
+        ensures { IfOk result (λ sink. sink ≡ nothing_collected room) }
+    {
+        match Vec::with_capacity(alloc, room) {
+            Ok(kept) => Ok(SureSink {
+                kept,
+                room,
+                whole: true,
+                count: 0,
+            }),
+            Err(_) => Err(NoMemory),
+        }
+    }
+
+    /// The first bytes of all that came.
+    pub fn bytes(&self) -> &[u8]
+        ensures { result.now ≡ self.now.kept }
+    {
+        &self.kept
+    }
+
+    /// How many bytes came. The count stays at `u64::MAX` once it is reached.
+    pub fn count(&self) -> u64
+        ensures { result ≡ self.now.count }
+    {
+        self.count
+    }
+}
+
+impl Sink for SureSink {
+    ghost written = { collected_bytes };
+
+    ghost faults = { λ s. 0 };
+
+    fn write(&mut self, buf: &[u8]) -> Result<usize, Failed> {
+        let free = self.room - self.kept.len();
+        if buf.len() > free {
+            self.whole = false;
+        }
+        self.kept
+            .extend_from_slice(&buf[..buf.len().min(free)])
+            .unwrap();
+        self.count = self.count.saturating_add(buf.len() as u64);
+        Ok(buf.len())
+    }
+}
