@@ -1,5 +1,5 @@
 -- What a sink in memory keeps of what it is given.
-use Rattle.std.specs.Prelude.{ℕ, List, [], Bool, true, None, Some, if◌then◌else◌}
+use Rattle.std.specs.Prelude.{◌≡◌, ◌↔◌, ℕ, ◌+◌, ◌-◌, ◌^◌, ◌≤◌, List, [], ◌++◌, length, take, min, Bool, true, IsTrue, None, Some, if◌then◌else◌}
 use Rattle.std.specs.declared.option.Option.{Option}
 
 -- the first bytes of all that came, up to the room; whether that was all; how many came
@@ -15,3 +15,10 @@ collected_bytes s = if s.whole then Some s.kept else None
 
 abbrev pub nothing_collected : ℕ → Collected
 nothing_collected room = record { kept = []; room = room; whole = true; count = 0 }
+
+-- one more piece: what of it fits is kept, all of it is counted
+pub record Collects (old : Collected) (piece : List ℕ) (new : Collected) : Type 0 where
+  pub kept : new.kept ≡ old.kept ++ take (old.room - length old.kept) piece
+  pub room : new.room ≡ old.room
+  pub whole : IsTrue new.whole ↔ (IsTrue old.whole × (length piece ≤ old.room - length old.kept))
+  pub count : new.count ≡ min (old.count + length piece) (2 ^ 64 - 1)

@@ -1,6 +1,9 @@
 // A source and a sink in memory, of which no call fails.
 ghost use Rattle.std.specs.Prelude.{◌≡◌, ℕ, ◌<◌, ◌≤◌, Some, drop, take, length, vec_len, vec_capacity, IfOk, List};
-ghost use Rattle.mwt_base.specs.Sure.{Collected, collected_bytes, nothing_collected};
+ghost use Rattle.std.specs.Io.{WritesAtMost};
+ghost use Rattle.mwt_base.specs.Causes.{HasCause};
+ghost use Rattle.mwt_base.specs.Sure.{Collected, Collects, collected_bytes, nothing_collected};
+ghost use Rattle.mwt_base.specs.Told.{WriteGrows};
 
 use crate::{Bytes, Failed, NoMemory, Sink, Source};
 use std::alloc::Global;
@@ -117,7 +120,16 @@ impl Sink for SureSink {
 
     ghost faults = { λ s. 0 };
 
-    fn write(&mut self, buf: &[u8]) -> Result<usize, Failed> {
+    fn write(&mut self, buf: &[u8]) -> Result<usize, Failed>
+        ensures all { result ≡ Ok (length buf.now) }
+        ensures collects { Collects self.old buf.now self.new }
+
+        // What every sink promises.
+        ensures bound { WritesAtMost result buf.now }
+        ensures some { IfOk result (λ k. 0 < length buf.now → 0 < k) }
+        ensures bytes { WriteGrows (collected_bytes self.old) (collected_bytes self.new) result buf.now }
+        ensures cause { HasCause 0 0 result }
+    {
         let free = self.room - self.kept.len();
         if buf.len() > free {
             self.whole = false;

@@ -1,0 +1,15 @@
+//! The top call of the program: from the words of the command line and a source to a sink and a
+//! status. Its contract is what the program promises.
+#![tactic(auto)]
+
+mod answer;
+mod refusal;
+#[cfg(test)]
+mod tests;
+mod top;
+mod words;
+
+pub use top::run;
+
+/// The most bytes of input that are read.
+pub const INPUT_LIMIT: usize = 67_108_864;

@@ -1,0 +1,56 @@
+// The top call.
+ghost use Rattle.std.specs.Prelude.{◌≡◌, ◌⊎◌, ◌+◌, ◌≤◌};
+ghost use Rattle.mwt_base.specs.Causes.{Rose};
+ghost use Rattle.mwt_tool.specs.Said.{IsAnswer, ReadsUpTo, Says, SaysPrefix};
+ghost use Rattle.mwt_tool.specs.Words.{texts, ReadsInput};
+
+use crate::INPUT_LIMIT;
+use crate::answer::{Stop, decide};
+use mwt_base::{Gate, Sink, Source, Status, write_whole};
+use std::alloc::Global;
+use std::thread::Threads;
+
+/// Does all that the program does. `words` are those after the program's name.
+///
+/// What it means to write for its words and its input is stated in `specs/Intends.antt`, a row for
+/// each refusal and each mode. All memory is taken before the first write.
+pub fn run<S: Source, K: Sink, G: Gate, R: Threads + Sync>(
+    _rt: &R,
+    alloc: Global,
+    words: &[String],
+    source: &mut S,
+    sink: &mut K,
+    _gate: &G,
+) -> Status
+    // With an answer: what the program means to write for these words and this input was written.
+    ensures said { IsAnswer result →
+        Says (texts words.now) (S.left source.old) result (K.written sink.old) (K.written sink.new) }
+
+    // A fault comes from outside, and nothing else was written.
+    ensures write_fault { result ≡ Status.WriteFault → Rose (K.faults sink.old) (K.faults sink.new) }
+    ensures write_fault_prefix { result ≡ Status.WriteFault →
+        SaysPrefix (texts words.now) (S.left source.old) (K.written sink.old) (K.written sink.new) }
+    ensures read_fault { result ≡ Status.ReadFault → Rose (S.faults source.old) (S.faults source.new) }
+    ensures read_fault_reads { result ≡ Status.ReadFault → ReadsInput (texts words.now) }
+    ensures read_fault_silent { result ≡ Status.ReadFault → sink.new ≡ sink.old }
+    ensures no_memory { result ≡ Status.NoMemory → sink.new ≡ sink.old }
+
+    // What was read.
+    ensures read_to_the_end { ReadsInput (texts words.now) → IsAnswer result ⊎ (result ≡ Status.WriteFault) →
+        ReadsUpTo INPUT_LIMIT (S.left source.old) (S.left source.new) }
+    ensures read_nothing { ¬ ReadsInput (texts words.now) → source.new ≡ source.old }
+    ensures reads { S.reads source.new ≤ S.reads source.old + (INPUT_LIMIT + 2) }
+
+    // Where no fault was counted there is an answer, or want of memory.
+    ensures no_other { ¬ Rose (S.faults source.old) (S.faults source.new) → ¬ Rose (K.faults sink.old) (K.faults sink.new) →
+        IsAnswer result ⊎ (result ≡ Status.NoMemory) }
+{
+    match decide(alloc, words, source) {
+        Ok(answer) => match write_whole(sink, answer.text.as_bytes()) {
+            Ok(()) => answer.status,
+            Err(_) => Status::WriteFault,
+        },
+        Err(Stop::ReadFault) => Status::ReadFault,
+        Err(Stop::NoMemory) => Status::NoMemory,
+    }
+}
