@@ -4,10 +4,10 @@ use Rattle.std.proofs.lemmas.Int.{ints}
 use Rattle.std.proofs.Math.IntN.{zero-*ℤ, *ℤ-zero}
 use Rattle.exact_predicates.specs.declared.point.Point.{Point}
 use Rattle.exact_predicates.specs.Plane.{orient, dot, Precedes, IsBetween}
-use Rattle.exact_predicates.proofs.Ring.{var, plus, less, times, ring}
-use Rattle.exact_predicates.proofs.Orientation.{coordinates, orient_turned}
+use Rattle.exact_predicates.proofs.Ring.{var, num, plus, less, times, ring}
+use Rattle.exact_predicates.proofs.Orientation.{coordinates, turn, orient_turned, orient_swapped}
 use Rattle.exact_predicates.proofs.HalfPlane.{cross, IsForward, forward_x, forward_from, orient_back}
-use Rattle.exact_predicates.proofs.IntSigns.{square-nonneg, mul-nonneg, mul-pos, nonneg-from-mul}
+use Rattle.exact_predicates.proofs.IntSigns.{square-nonneg, mul-nonneg, mul-pos, nonneg-from-mul, pos-from-mul}
 use Rattle.exact_predicates.proofs.Order.{Precedes-trans, Precedes-cases}
 
 -- the inner product of two vectors
@@ -97,3 +97,65 @@ IsBetween-order p q r pq h =
     (λ rp. let s = same_side p q r (inr (rp, Precedes-trans r p q rp pq)) on in absurd (omega (arith, ints)))
     o)
     (Precedes-cases p r)
+
+-- the two ends may change places
+pub IsBetween-turned : (p q r : Point) → IsBetween p q r → IsBetween q p r
+IsBetween-turned p q r b =
+    let e = b.on_line in
+    let l = b.opposite in
+    record { on_line = omega (arith, ints, orient_swapped p q r); opposite = omega (arith, ints, dot_comm r p q) }
+
+-- two vectors forward on one line have a positive product
+inner_pos : (ax ay bx by : ℤ) → IsForward ax ay → IsForward bx by → cross ax ay bx by ≡ pos 0 → pos 0 <ℤ inner ax ay bx by
+inner_pos ax ay bx by a b e =
+    ⊎_elim
+    (λ right. ⊎_elim
+    (λ l. pos-from-mul ax (inner ax ay bx by) right (sum_pos right l))
+    (λ u. let m = mul-pos ax by right u.1 in
+    let z : ay *ℤ bx ≡ pos 0 = ap (λ t. ay *ℤ t) u.0 ∙ *ℤ-zero ay in
+    absurd (omega (arith, ints)))
+    b)
+    (λ up. ⊎_elim
+    (λ l. let m = mul-pos ay bx up.1 l in
+    let z : ax *ℤ by ≡ pos 0 = ap (λ t. t *ℤ by) up.0 ∙ zero-*ℤ by in
+    absurd (omega (arith, ints)))
+    (λ u. let m = mul-pos ay by up.1 u.1 in
+    let z : ax *ℤ bx ≡ pos 0 = ap (λ t. t *ℤ bx) up.0 ∙ zero-*ℤ bx in
+    omega (arith, ints))
+    b)
+    a
+  where
+    sum_pos : pos 0 <ℤ ax → pos 0 <ℤ bx → pos 0 <ℤ (ax *ℤ inner ax ay bx by)
+    sum_pos right l =
+        let s = mul-pos ax ax right right in
+        let t = square-nonneg ay in
+        let m = mul-pos ((ax *ℤ ax) +ℤ (ay *ℤ ay)) bx (omega (arith, ints)) l in
+        let z : ay *ℤ cross ax ay bx by ≡ pos 0 = ap (λ t. ay *ℤ t) e ∙ *ℤ-zero ay in
+        rw (inner_by_x ax ay bx by) (omega (arith, ints))
+
+-- what p and q are seen from r by, with vectors that point forward where r comes between them
+dot_between : (r p q : Point) → dot r p q +ℤ inner (r.x -ℤ p.x) (r.y -ℤ p.y) (q.x -ℤ r.x) (q.y -ℤ r.y) ≡ pos 0
+unfolding dot
+dot_between r p q =
+    ring (coordinates (r ∷ p ∷ q ∷ []))
+    (plus (plus (times (less (var 2) (var 0)) (less (var 4) (var 0))) (times (less (var 3) (var 1)) (less (var 5) (var 1)))) (plus (times (less (var 0) (var 2)) (less (var 4) (var 0))) (times (less (var 1) (var 3)) (less (var 5) (var 1)))))
+    (num (pos 0))
+    (omega arith)
+
+orient_between : (p q r : Point) → cross (r.x -ℤ p.x) (r.y -ℤ p.y) (q.x -ℤ r.x) (q.y -ℤ r.y) +ℤ orient p q r ≡ pos 0
+unfolding orient
+orient_between p q r =
+    ring (coordinates (p ∷ q ∷ r ∷ []))
+    (plus (less (times (less (var 4) (var 0)) (less (var 3) (var 5))) (times (less (var 5) (var 1)) (less (var 2) (var 4)))) (turn 0 2 4))
+    (num (pos 0))
+    (omega arith)
+
+-- a point on the line of p and q that comes between them in the order of points lies between them
+pub IsBetween-from_order : (p q r : Point) → Precedes p r → Precedes r q → orient p q r ≡ pos 0 → IsBetween p q r
+IsBetween-from_order p q r pr rq on =
+    record {
+      on_line = on;
+      opposite =
+          let h = inner_pos _ _ _ _ (forward_from p r pr) (forward_from r q rq) (omega (arith, ints, orient_between p q r)) in
+          omega (arith, ints, dot_between r p q);
+    }

@@ -68,6 +68,15 @@ cross_strict ax ay bx by cx cy a b c ab bc =
     let turned = cross_transitive bx by cx cy ax ay b c a bc (omega (arith, ints)) in
     absurd (omega (arith, ints, cross_swap ax ay bx by)))
 
+-- the same, where the second turn is the strict one
+pub cross_strict_last : (ax ay bx by cx cy : ℤ) → IsForward ax ay → IsForward bx by → IsForward cx cy
+    → pos 0 ≤ℤ cross ax ay bx by → pos 0 <ℤ cross bx by cx cy → pos 0 <ℤ cross ax ay cx cy
+cross_strict_last ax ay bx by cx cy a b c ab bc =
+    by_lt_z (pos 0) (cross ax ay cx cy) (λ h. h)
+    (λ h. let back = cross_swap ax ay cx cy in
+    let turned = cross_transitive cx cy ax ay bx by c a b (omega (arith, ints)) ab in
+    absurd (omega (arith, ints, cross_swap bx by cx cy)))
+
 pub forward_from : (o p : Point) → Precedes o p → IsForward (p.x -ℤ o.x) (p.y -ℤ o.y)
 forward_from o p h =
     ⊎_elim
@@ -103,3 +112,10 @@ pub turn_strict : (o a b c : Point) → Precedes o a → Precedes o b → Preced
 unfolding orient
 turn_strict o a b c ha hb hc ab bc =
     cross_strict _ _ _ _ _ _ (forward_from o a ha) (forward_from o b hb) (forward_from o c hc) ab bc
+
+-- the same, where the second turn is the strict one
+pub turn_strict_last : (o a b c : Point) → Precedes o a → Precedes o b → Precedes o c
+    → pos 0 ≤ℤ orient o a b → pos 0 <ℤ orient o b c → pos 0 <ℤ orient o a c
+unfolding orient
+turn_strict_last o a b c ha hb hc ab bc =
+    cross_strict_last _ _ _ _ _ _ (forward_from o a ha) (forward_from o b hb) (forward_from o c hc) ab bc

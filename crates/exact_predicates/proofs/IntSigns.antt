@@ -37,3 +37,9 @@ zero-from-mul (pos zero) b l e = absurd (omega (arith, ints))
 zero-from-mul (pos (suc a)) (pos b) l e = omega (arith, ints)
 zero-from-mul (pos (suc a)) (negsuc b) l e = absurd (omega (arith, ints, product_parts (pos (suc a)) (negsuc b)))
 zero-from-mul (negsuc a) b l e = absurd (omega (arith, ints))
+
+-- a factor is positive where the other and the product are
+pub pos-from-mul : (a b : ℤ) → pos 0 <ℤ a → pos 0 <ℤ (a *ℤ b) → pos 0 <ℤ b
+pos-from-mul a (pos zero) h k = absurd (omega (arith, ints))
+pos-from-mul a (pos (suc b)) h k = omega (arith, ints)
+pos-from-mul a (negsuc b) h k = absurd (omega (arith, ints, nonneg-from-mul a (negsuc b) h (omega (arith, ints))))

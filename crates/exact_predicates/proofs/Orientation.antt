@@ -30,6 +30,10 @@ pub orient_swapped : (p q r : Point) → orient q p r +ℤ orient p q r ≡ pos 
 unfolding orient
 orient_swapped p q r = ring (coordinates (p ∷ q ∷ r ∷ [])) (plus (turn 2 0 4) (turn 0 2 4)) (num (pos 0)) (omega arith)
 
+pub orient_swapped_last : (p q r : Point) → orient p r q +ℤ orient p q r ≡ pos 0
+unfolding orient
+orient_swapped_last p q r = ring (coordinates (p ∷ q ∷ r ∷ [])) (plus (turn 0 4 2) (turn 0 2 4)) (num (pos 0)) (omega arith)
+
 -- The barycentric identity: the triangles that s makes with the three sides are together the whole one.
 pub orient_four : (p q r s : Point) → orient p q s +ℤ (orient q r s +ℤ orient r p s) ≡ orient p q r
 unfolding orient

@@ -23,7 +23,8 @@ next_at x xs k d k_in =
         let e : suc k + 1 ≡ suc (k + 1) = omega arith in
         rw e (moved y ys k d (omega arith))
 
-length-ring : (h : List ℕ) → length (ring_pairs h) ≡ length h
+-- a ring has as many pairs as members
+pub length-ring : (h : List ℕ) → length (ring_pairs h) ≡ length h
 length-ring [] = refl
 length-ring (x ∷ xs) = omega (arith, length-zip (x ∷ xs) (xs ++ x ∷ []), length_push xs x)
 
@@ -42,13 +43,17 @@ place_of_pair h u v (k, k_in, at_k) =
     let next : IsNext h k v = subst (λ (x : ℕ). IsNext h k x) (ap (λ (p : ℕ × ℕ). p.1) at_k) r.1 in
     (k, l, sym r.0 ∙ ap (λ (p : ℕ × ℕ). p.0) at_k, next)
 
--- and each place has a pair
-pub pair_of_place : (h : List ℕ) (u v k : ℕ) → k < length h → slice_index h k ≡ u → IsNext h k v → IsHullPair h u v
-pair_of_place h u v k l e next =
-    let r = ring_at h k (u, v) l in
+-- the pair at a place, by what follows that place
+pub pair_at : (h : List ℕ) (u v k : ℕ) (d : ℕ × ℕ) → k < length h → slice_index h k ≡ u → IsNext h k v → get_or (ring_pairs h) k d ≡ (u, v)
+pair_at h u v k d l e next =
+    let r = ring_at h k d l in
     let first = r.0 ∙ e in
-    let second : (get_or (ring_pairs h) k (u, v)).1 ≡ v = ⊎_elim
+    let second : (get_or (ring_pairs h) k d).1 ≡ v = ⊎_elim
     (λ a. ⊎_elim (λ b. sym a.1 ∙ b.1) (λ b. absurd (omega (arith, a.0, b.0))) next)
     (λ a. ⊎_elim (λ b. absurd (omega (arith, a.0, b.0))) (λ b. sym a.1 ∙ b.1) next)
     r.1 in
-    (k, omega (arith, length-ring h, l), ap (λ z. (z, (get_or (ring_pairs h) k (u, v)).1)) first ∙ ap (λ z. (u, z)) second)
+    ap (λ z. (z, (get_or (ring_pairs h) k d).1)) first ∙ ap (λ z. (u, z)) second
+
+-- and each place has a pair
+pub pair_of_place : (h : List ℕ) (u v k : ℕ) → k < length h → slice_index h k ≡ u → IsNext h k v → IsHullPair h u v
+pair_of_place h u v k l e next = (k, omega (arith, length-ring h, l), pair_at h u v k (u, v) l e next)

@@ -7,10 +7,11 @@ mod edge;
 mod lists;
 mod point;
 mod points;
+mod staying;
 mod tri;
 
 pub use edge::Edge;
 pub use lists::{Hull, PointList, Tris};
 pub use point::{Point, d2, in_range, orient};
-pub use points::Points;
+pub use points::{Points, PointsStop};
 pub use tri::Tri;

@@ -1,8 +1,16 @@
 // The points of a problem.
-ghost use Rattle.std.specs.Prelude.{◌≡◌, ◌<◌, length};
+ghost use Rattle.std.specs.Prelude.{◌≡◌, ◌<◌, ◌-◌, ℕ, length, IfOk, IfErr};
+ghost use Rattle.exact_predicates.specs.Merging.{IsMadeFrom, points_code};
 
+use crate::lists::PointList;
 use crate::point::Point;
+use crate::staying::{are_in_range, first_at_each_place, has_distinct_ids, is_flat, sort_by_place};
+use std::alloc::{AllocError, Global};
 use std::marker::Model;
+
+const FEWEST: usize = 3;
+
+const MOST: usize = 10_000;
 
 /// From 3 to 10,000 points in range, with distinct ids and distinct coordinates, not all on one
 /// line. They are numbered from 0 in the order of `x` and then `y`.
@@ -22,7 +30,74 @@ impl Model for Points {
     ghost invariant = { λ p. IsPointSet p.items.items };
 }
 
+/// Why a list of points is refused: the first of these rules that it breaks, by its number. Or want
+/// of memory.
+#[derive(Clone, Copy, Debug, PartialEq, Eq)]
+pub enum PointsStop {
+    Refused(u32),
+    NoMemory,
+}
+
+impl PointsStop {
+    /// A coordinate is above 10^9 in size.
+    pub const OUT_OF_RANGE: PointsStop = PointsStop::Refused(4);
+    /// Two points have one id.
+    pub const REPEATED_ID: PointsStop = PointsStop::Refused(5);
+    /// More than 10,000 points have coordinates of their own.
+    pub const TOO_MANY: PointsStop = PointsStop::Refused(2);
+    /// Fewer than 3 points have coordinates of their own.
+    pub const TOO_FEW: PointsStop = PointsStop::Refused(1);
+    /// All points lie on one line.
+    pub const FLAT: PointsStop = PointsStop::Refused(3);
+}
+
+impl From<AllocError> for PointsStop {
+    ghost use Rattle.exact_predicates.specs.declared.points.PointsStop.TheVariants.{NoMemory};
+
+    ghost from_gives = { λ _ stop. stop ≡ NoMemory };
+
+    fn from(_: AllocError) -> Self {
+        PointsStop::NoMemory
+    }
+}
+
+// The points of a list that stay, in order.
+fn in_order(alloc: Global, points: &[Point]) -> Result<Vec<Point>, PointsStop>
+    ensures made { IfOk result (λ kept. IsMadeFrom points.now (record { points = kept.items; merged = length points.now - length kept.items })) }
+    ensures refused { IfErr result (λ stop. (code : ℕ) → stop ≡ PointsStop.Refused code → points_code points.now ≡ Some code) }
+{
+    if !are_in_range(points) {
+        return Err(PointsStop::OUT_OF_RANGE);
+    }
+    if !has_distinct_ids(alloc, points)? {
+        return Err(PointsStop::REPEATED_ID);
+    }
+    let mut kept = first_at_each_place(alloc, points, MOST)?;
+    if kept.len() > MOST {
+        return Err(PointsStop::TOO_MANY);
+    }
+    if kept.len() < FEWEST {
+        return Err(PointsStop::TOO_FEW);
+    }
+    sort_by_place(&mut kept)?;
+    if is_flat(&kept) {
+        return Err(PointsStop::FLAT);
+    }
+    Ok(kept)
+}
+
 impl Points {
+    /// The points of a list. Of equal coordinates the first in the list stays. For n points it takes
+    /// time n log n.
+    pub fn new(alloc: Global, list: PointList) -> Result<Points, PointsStop>
+        ensures made { IfOk result (λ points. IsMadeFrom list points) }
+        ensures refused { IfErr result (λ stop. (code : ℕ) → stop ≡ PointsStop.Refused code → points_code list ≡ Some code) }
+    {
+        let items = in_order(alloc, list.as_slice())?;
+        let merged = list.len() - items.len() as u32;
+        Ok(Points { items, merged })
+    }
+
     ghost use Rattle.exact_predicates.specs.Plane.{IsInRange};
     ghost use Rattle.exact_predicates.specs.PointSet.{IsPointSet, point_at};
 
@@ -41,6 +116,14 @@ impl Points {
         ensures in_range { IsInRange result.now }
     {
         &self.items[i as usize]
+    }
+
+    /// The points in their order.
+    pub fn as_slice(&self) -> &[Point]
+        ensures is { result.now ≡ self.now.points }
+        ensures valid { IsPointSet self.now.points }
+    {
+        &self.items
     }
 
     /// How many points of the list were dropped since an earlier one has their coordinates.

@@ -1,1 +1,3 @@
+pub mod Edges
 pub mod Enclosures
+pub mod Peaks
