@@ -1,10 +1,13 @@
 pub mod Chains
-pub mod Corners
+pub mod Emptiness
 pub mod Finals
+pub mod Hulls
 pub mod Joins
 pub mod Outlines
-pub mod Seen
+pub mod PairCounts
+pub mod Rules
 pub mod Shapes
-pub mod Steps
 pub mod Sweeps
+pub mod Tops
+pub mod Views
 pub mod Wedges
