@@ -1,13 +1,16 @@
 -- From what was read to what is meant: one lemma a row.
-use Rattle.std.proofs.Common.{◌≡◌, ℕ, ◌<◌, ◌≤◌, List, [], ◌++◌, length, refl, sym, arith, length-append}
+use Rattle.std.proofs.Common.{subst, ◌≡◌, ℕ, ◌<◌, ◌≤◌, List, [], ◌++◌, length, refl, sym, arith, length-append}
 use Rattle.std.specs.Prelude.{None, Some}
 use Rattle.std.specs.declared.option.Option.{Option}
 use Rattle.mwt_base.specs.declared.status.Status.{Status}
 use Rattle.mwt_base.specs.Told.{IsTold, ReadToEnd, TookMore}
-use Rattle.mwt_tool.specs.declared.refusal.Refusal.TheVariants.{NotBuilt, Usage, TooLong}
+use Rattle.mwt_base.specs.declared.status.Status.TheVariants.{Done}
+use Rattle.exact_predicates.specs.declared.point.Point.{Point}
+use Rattle.tsplib_points.specs.Plain.{IsPlainFile}
+use Rattle.mwt_tool.specs.declared.refusal.Refusal.TheVariants.{Usage, TooLong}
 use Rattle.mwt_tool.specs.declared.TheConstants.{INPUT_LIMIT}
-use Rattle.mwt_tool.specs.Intends.{Refuses, usage, too_long, not_built}
-use Rattle.mwt_tool.specs.Said.{Means}
+use Rattle.mwt_tool.specs.Intends.{Intends, Refuses, Solves, usage, too_long, solve, not_built, solved}
+use Rattle.mwt_tool.specs.Said.{Means, IsAcceptedInput}
 use Rattle.mwt_tool.specs.Words.{Accepts}
 
 -- an input that fits what the source tells
@@ -40,15 +43,34 @@ Means-too_long words (Some xs) (Some ys) status text accepted more says =
     let far : INPUT_LIMIT < length more.bytes = more.more in
     record { input = more.bytes ++ ys; told = e; intended = too_long accepted (omega (arith, length-append more.bytes ys)) says }
 
-pub Means-not_built : (words : List (List ℕ)) (had after : Option (List ℕ)) (bytes : List ℕ) (status : Status) (text : List ℕ)
-    → Accepts words → ReadToEnd had after bytes → length bytes ≤ INPUT_LIMIT → Refuses NotBuilt status text → Means words had status text
-Means-not_built words None after bytes status text accepted all within says = record {
+pub Means-solve : (words : List (List ℕ)) (had after : Option (List ℕ)) (bytes : List ℕ) (status : Status) (text : List ℕ)
+    → Accepts words → ReadToEnd had after bytes → length bytes ≤ INPUT_LIMIT → Solves bytes status text → Means words had status text
+Means-solve words None after bytes status text accepted all within solves = record {
   input = bytes;
   told = tt;
-  intended = not_built accepted within says;
+  intended = solve accepted within solves;
 }
-Means-not_built words (Some xs) after bytes status text accepted all within says = record {
+Means-solve words (Some xs) after bytes status text accepted all within solves = record {
   input = bytes;
   told = sym all.0;
-  intended = not_built accepted within says;
+  intended = solve accepted within solves;
 }
+
+-- a plain file is answered with Done
+Solves-done : (input : List ℕ) (status : Status) (text : List ℕ) (nodes : List Point) → IsPlainFile input nodes → Solves input status text → status ≡ Done
+Solves-done input status text nodes plain (not_built none says) = absurd (none nodes plain)
+Solves-done input status text nodes plain (solved file report of is says) = says.0
+
+Intends-done : (words : List (List ℕ)) (input : List ℕ) (status : Status) (text : List ℕ) (nodes : List Point) → Accepts words
+    → length input ≤ INPUT_LIMIT → IsPlainFile input nodes → Intends words input status text → status ≡ Done
+Intends-done words input status text nodes accepted within plain (usage away says) = absurd (away accepted)
+Intends-done words input status text nodes accepted within plain (too_long same far says) = absurd (omega arith)
+Intends-done words input status text nodes accepted within plain (solve same within' solves) = Solves-done input status text nodes plain solves
+
+pub Means-done : (words : List (List ℕ)) (had : Option (List ℕ)) (status : Status) (text : List ℕ) → IsAcceptedInput words had → Means words had status text → status ≡ Done
+Means-done words None status text has means = absurd (cc has.told)
+Means-done words (Some xs) status text has means =
+    let told : xs ≡ means.input = means.told in
+    let same : has.input ≡ means.input = let e : Some xs ≡ Some has.input = has.told in cc (e, told) in
+    let P : List ℕ → Type 0 = λ s. Intends words s status text in
+    Intends-done words has.input status text has.nodes has.accepted has.within has.plain (subst P (sym same) means.intended)

@@ -4,7 +4,11 @@ use Rattle.std.specs.declared.option.Option.{Option}
 use Rattle.mwt_base.specs.Told.{IsTold, Grows, GrowsByPrefix, TookMore}
 use Rattle.mwt_base.specs.declared.status.Status.{Status}
 use Rattle.mwt_base.specs.declared.status.Status.TheVariants.{Done, Broken, Refused, ReadFault, WriteFault, NoMemory}
+use Rattle.exact_predicates.specs.declared.point.Point.{Point}
+use Rattle.tsplib_points.specs.Plain.{IsPlainFile}
+use Rattle.mwt_tool.specs.declared.TheConstants.{INPUT_LIMIT}
 use Rattle.mwt_tool.specs.Intends.{Intends}
+use Rattle.mwt_tool.specs.Words.{Accepts}
 
 -- the program came to an answer, and wrote it
 abbrev pub IsAnswer : Status → Type 0
@@ -38,3 +42,12 @@ pub record SaysPrefix (words : List (List ℕ)) (had : Option (List ℕ)) (befor
 pub record ReadsUpTo (limit : ℕ) (had after : Option (List ℕ)) : Type 0 where
   pub whole : (input : List ℕ) → had ≡ Some input → length input ≤ limit → after ≡ Some []
   pub past : (input : List ℕ) → had ≡ Some input → limit < length input → TookMore limit had after
+
+-- words that are accepted, and a file that is accepted in a source that tells
+pub record IsAcceptedInput (words : List (List ℕ)) (had : Option (List ℕ)) : Type 0 where
+  pub accepted : Accepts words
+  pub input : List ℕ
+  pub told : had ≡ Some input
+  pub within : length input ≤ INPUT_LIMIT
+  pub nodes : List Point
+  pub plain : IsPlainFile input nodes

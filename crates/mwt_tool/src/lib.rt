@@ -4,11 +4,16 @@
 
 mod answer;
 mod refusal;
+mod report;
+mod solve;
 #[cfg(test)]
 mod tests;
+mod text;
 mod top;
 mod words;
+mod writer;
 
+pub use report::Report;
 pub use top::run;
 
 /// The most bytes of input that are read.

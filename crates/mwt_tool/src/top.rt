@@ -1,7 +1,7 @@
 // The top call.
 ghost use Rattle.std.specs.Prelude.{◌≡◌, ◌⊎◌, ◌+◌, ◌≤◌};
 ghost use Rattle.mwt_base.specs.Causes.{Rose};
-ghost use Rattle.mwt_tool.specs.Said.{IsAnswer, ReadsUpTo, Says, SaysPrefix};
+ghost use Rattle.mwt_tool.specs.Said.{IsAcceptedInput, IsAnswer, ReadsUpTo, Says, SaysPrefix};
 ghost use Rattle.mwt_tool.specs.Words.{texts, ReadsInput};
 
 use crate::INPUT_LIMIT;
@@ -44,9 +44,14 @@ pub fn run<S: Source, K: Sink, G: Gate, R: Threads + Sync>(
     // Where no fault was counted there is an answer, or want of memory.
     ensures no_other { ¬ Rose (S.faults source.old) (S.faults source.new) → ¬ Rose (K.faults sink.old) (K.faults sink.new) →
         IsAnswer result ⊎ (result ≡ Status.NoMemory) }
+
+    // A file that is accepted is answered with a report.
+    ensures complete { IsAcceptedInput (texts words.now) (S.left source.old) →
+        ¬ Rose (S.faults source.old) (S.faults source.new) → ¬ Rose (K.faults sink.old) (K.faults sink.new) →
+        (result ≡ Status.Done) ⊎ (result ≡ Status.NoMemory) }
 {
     match decide(alloc, words, source) {
-        Ok(answer) => match write_whole(sink, answer.text.as_bytes()) {
+        Ok(answer) => match write_whole(sink, &answer.text) {
             Ok(()) => answer.status,
             Err(_) => Status::WriteFault,
         },

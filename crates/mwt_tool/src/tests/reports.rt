@@ -1,0 +1,160 @@
+// Whole files and what the program writes for them, over sources and sinks in memory.
+//
+// The hulls and the triangles are those of the rule of the sweep, worked out by hand and by another
+// program; the lengths are sums of whole roots.
+
+use crate::tests::{Run, plain_file};
+use mwt_base::Status;
+use std::alloc::Global;
+use std::process::Abort;
+use std::test::Fail;
+use std::thread::Threads;
+
+// A file and what its report says.
+#[derive(Clone, Copy)]
+struct Row<'a> {
+    nodes: &'a [(i64, i64)],
+    // The numbers of the nodes in the order of the points.
+    order: &'a [usize],
+    hull: &'a [u32],
+    triangles: &'a [[u32; 3]],
+    length: &'a str,
+}
+
+// The text of the report, put together from its parts.
+fn report(alloc: Global, row: &Row) -> Result<String, Fail> {
+    let mut text = String::from_str(alloc, "mwt 0\ndiamond off\nunit 0\nmerged 0\n")?;
+    let count = row.order.len();
+    write!(text, "points {count}\n")?;
+    for id in row.order {
+        let (x, y) = row
+            .nodes
+            .get(id.saturating_sub(1))
+            .copied()
+            .unwrap_or((0, 0));
+        write!(text, "{id} {x} {y}\n")?;
+    }
+    let count = row.hull.len();
+    write!(text, "hull {count}\n")?;
+    for number in row.hull {
+        write!(text, "{number}\n")?;
+    }
+    let count = row.triangles.len();
+    write!(text, "triangles {count}\n")?;
+    for [a, b, c] in row.triangles {
+        write!(text, "{a} {b} {c}\n")?;
+    }
+    let length = row.length;
+    write!(text, "method sweep\nlength {length}\nend\n")?;
+    Ok(text)
+}
+
+// What `solve` writes for a file, with each spelling of its words.
+fn solved(
+    rt: &(impl Threads + Sync + Abort),
+    alloc: Global,
+    nodes: &[(i64, i64)],
+    text: &str,
+) -> Result<(), Fail> {
+    let spellings: [&[&str]; 2] = [&["solve"], &["solve", "--diamond", "off"]];
+    for words in spellings {
+        let run = Run::over(rt, alloc, words, plain_file(alloc, nodes)?)?;
+        assert_eq!(rt; run.status, Status::Done);
+        assert_eq!(rt; run.text.as_str(), text);
+    }
+    Ok(())
+}
+
+#[test]
+fn three_points(rt: HostRuntime) -> Result<(), Fail> {
+    let text = "mwt 0\n\
+                diamond off\n\
+                unit 0\n\
+                merged 0\n\
+                points 3\n\
+                1 0 0\n\
+                3 0 4\n\
+                2 3 0\n\
+                hull 3\n\
+                0\n\
+                2\n\
+                1\n\
+                triangles 1\n\
+                0 2 1\n\
+                method sweep\n\
+                length 12.000000 12.000000\n\
+                end\n";
+    solved(&rt, rt.alloc(), &[(0, 0), (3, 0), (0, 4)], text)
+}
+
+#[test]
+fn more_points(rt: HostRuntime) -> Result<(), Fail> {
+    let rows = [
+        // The unit square.
+        Row {
+            nodes: &[(0, 0), (1, 0), (1, 1), (0, 1)],
+            order: &[1, 4, 2, 3],
+            hull: &[0, 2, 3, 1],
+            triangles: &[[0, 2, 1], [1, 2, 3]],
+            length: "5.414213 5.414214",
+        },
+        // A thin quadrilateral, whose long diagonal the sweep does not take.
+        Row {
+            nodes: &[(0, 0), (5, 1), (10, 0), (5, -1)],
+            order: &[1, 4, 2, 3],
+            hull: &[0, 1, 3, 2],
+            triangles: &[[0, 1, 2], [1, 3, 2]],
+            length: "22.396076 22.396080",
+        },
+        // A square with its centre.
+        Row {
+            nodes: &[(0, 0), (4, 0), (4, 4), (0, 4), (2, 2)],
+            order: &[1, 4, 5, 2, 3],
+            hull: &[0, 3, 4, 1],
+            triangles: &[[0, 2, 1], [0, 3, 2], [1, 2, 4], [2, 3, 4]],
+            length: "27.313708 27.313712",
+        },
+        // Five points in convex position.
+        Row {
+            nodes: &[(0, 0), (2, -2), (7, -3), (10, 0), (5, 1)],
+            order: &[1, 2, 5, 3, 4],
+            hull: &[0, 1, 3, 4, 2],
+            triangles: &[[0, 1, 2], [1, 3, 2], [2, 3, 4]],
+            length: "31.082899 31.082906",
+        },
+        // Three points on one side of the hull.
+        Row {
+            nodes: &[(0, 0), (2, 0), (4, 0), (2, 3)],
+            order: &[1, 2, 4, 3],
+            hull: &[0, 1, 3, 2],
+            triangles: &[[0, 1, 2], [1, 3, 2]],
+            length: "14.211102 14.211104",
+        },
+        // The greatest coordinates.
+        Row {
+            nodes: &[
+                (-1_000_000_000, -1_000_000_000),
+                (1_000_000_000, -1_000_000_000),
+                (1_000_000_000, 1_000_000_000),
+                (-1_000_000_000, 1_000_000_000),
+            ],
+            order: &[1, 4, 2, 3],
+            hull: &[0, 2, 3, 1],
+            triangles: &[[0, 2, 1], [1, 2, 3]],
+            length: "10828427124.746190 10828427124.746191",
+        },
+        // A quadrilateral whose long diagonal the sweep takes.
+        Row {
+            nodes: &[(0, 0), (4, -5), (4, 5), (8, 0)],
+            order: &[1, 2, 3, 4],
+            hull: &[0, 1, 3, 2],
+            triangles: &[[0, 1, 2], [1, 3, 2]],
+            length: "35.612496 35.612500",
+        },
+    ];
+    for row in rows {
+        let text = report(rt.alloc(), &row)?;
+        solved(&rt, rt.alloc(), row.nodes, text.as_str())?;
+    }
+    Ok(())
+}

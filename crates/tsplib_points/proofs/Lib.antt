@@ -1,0 +1,4 @@
+pub mod Files
+pub mod Numerals
+pub mod Readings
+pub mod Words

@@ -1,0 +1,27 @@
+// What a point file holds, and why it is refused.
+
+use exact_predicates::Points;
+
+/// The points of a file. Coordinates are in units of 10^-`unit`; `merged` nodes were dropped since
+/// an earlier one has their coordinates.
+#[derive(Drop)]
+pub struct File {
+    pub points: Points,
+    pub unit: u32,
+    pub merged: u32,
+}
+
+/// Why a file is refused: the code of the rule that it breaks, and the number of the line that breaks
+/// it, or 0 where the refusal speaks of the whole file.
+#[derive(Clone, Copy, Debug, PartialEq, Eq)]
+pub struct Refusal {
+    pub code: u32,
+    pub line: u32,
+}
+
+/// Why there is no file: it is refused, or want of memory.
+#[derive(Clone, Copy, Debug, PartialEq, Eq)]
+pub enum FileStop {
+    Refused(Refusal),
+    NoMemory,
+}

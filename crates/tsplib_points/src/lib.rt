@@ -1,0 +1,11 @@
+//! The reader of point files.
+//! Today it takes plain files alone: one spelling of each list of points.
+#![tactic(auto)]
+
+mod file;
+mod guess;
+mod plain;
+mod spelling;
+
+pub use file::{File, FileStop, Refusal};
+pub use plain::read_points;
