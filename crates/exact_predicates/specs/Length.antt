@@ -1,6 +1,6 @@
--- The length of a list of edges, at every scale: sums of whole roots, rounded up and rounded down, in parts of which m make
--- a millionth of the unit. The real length is at least a whole number of millionths exactly where each sum of roots rounded
--- up is, and at most one exactly where each sum of roots rounded down is.
+-- The length of a list of edges, at every scale: sums of whole roots, rounded up and rounded down, in parts of which m
+-- make a millionth of the unit. The real length is at least a whole number of millionths exactly where each sum of roots
+-- rounded up is, and at most one exactly where each sum of roots rounded down is.
 use Rattle.std.specs.Prelude.{ℕ, ◌*◌, ◌^◌, ◌≤◌, List, sum_by, ℤ, pos, ◌*ℤ◌, ◌≤ℤ◌}
 use Rattle.exact_predicates.specs.declared.point.Point.{Point}
 use Rattle.exact_predicates.specs.Plane.{d2}

@@ -28,7 +28,8 @@ pub record IsEmpty (ps : List Point) (t : Tri) : Type 0 where
   pub b_in : t.b < length ps
   pub c_in : t.c < length ps
   pub turns_left : pos 0 <ℤ orient (point_at ps t.a) (point_at ps t.b) (point_at ps t.c)
-  pub bare : (r : ℕ) → r < length ps → IsInClosedTriangle (point_at ps t.a) (point_at ps t.b) (point_at ps t.c) (point_at ps r) → IsCorner t r
+  pub bare : (r : ℕ) → r < length ps
+      → IsInClosedTriangle (point_at ps t.a) (point_at ps t.b) (point_at ps t.c) (point_at ps r) → IsCorner t r
 
 -- the directed sides of a triangle
 abbrev pub sides : Tri → List (ℕ × ℕ)
@@ -46,15 +47,16 @@ hit u v s = cond (is_side u v s) 1 0
 abbrev pub side_count : List Tri → ℕ → ℕ → ℕ
 side_count tris u v = sum_by (hit u v) (flat_map sides tris)
 
--- A triangulation of the points ps with this hull: as many empty triangles as Euler's formula gives, each pair of the hull
--- as a side once and never the other way round, each other side as often one way as the other, each point a corner.
--- Such a list covers each point of the hull, but those on a side, exactly once.
+-- A triangulation of the points ps with this hull: as many empty triangles as Euler's formula gives, each pair of the
+-- hull as a side once and never the other way round, each other side as often one way as the other, each point a
+-- corner. Such a list covers each point inside the hull, but those on a side, exactly once.
 pub record IsTriangulation (ps : List Point) (hull : List ℕ) (tris : List Tri) : Type 0 where
   pub empty : All (IsEmpty ps) tris
   pub count : length tris + length hull + 2 ≡ 2 * length ps
   pub hull_once : (u v : ℕ) → IsHullPair hull u v → side_count tris u v ≡ 1
   pub none_outside : (u v : ℕ) → IsHullPair hull u v → side_count tris v u ≡ 0
-  pub balanced : (u v : ℕ) → u ≢ v → ¬ IsHullPair hull u v → ¬ IsHullPair hull v u → side_count tris u v ≡ side_count tris v u
+  pub balanced : (u v : ℕ) → u ≢ v → ¬ IsHullPair hull u v → ¬ IsHullPair hull v u
+      → side_count tris u v ≡ side_count tris v u
   pub corners : (x : ℕ) → x < length ps → Any (λ t. IsCorner t x) tris
 
 -- whether s goes up and is no pair of the hull

@@ -63,8 +63,10 @@ impl From<AllocError> for PointsStop {
 
 // The points of a list that stay, in order.
 fn in_order(alloc: Global, points: &[Point]) -> Result<Vec<Point>, PointsStop>
-    ensures made { IfOk result (λ kept. IsMadeFrom points.now (record { points = kept.items; merged = length points.now - length kept.items })) }
-    ensures refused { IfErr result (λ stop. (code : ℕ) → stop ≡ PointsStop.Refused code → points_code points.now ≡ Some code) }
+    ensures made { IfOk result (λ kept. IsMadeFrom points.now
+        (record { points = kept.items; merged = length points.now - length kept.items })) }
+    ensures refused { IfErr result (λ stop. (code : ℕ) → stop ≡ PointsStop.Refused code →
+        points_code points.now ≡ Some code) }
 {
     if !are_in_range(points) {
         return Err(PointsStop::OUT_OF_RANGE);
@@ -91,7 +93,8 @@ impl Points {
     /// time n log n.
     pub fn new(alloc: Global, list: PointList) -> Result<Points, PointsStop>
         ensures made { IfOk result (λ points. IsMadeFrom list points) }
-        ensures refused { IfErr result (λ stop. (code : ℕ) → stop ≡ PointsStop.Refused code → points_code list ≡ Some code) }
+        ensures refused { IfErr result (λ stop. (code : ℕ) → stop ≡ PointsStop.Refused code →
+            points_code list ≡ Some code) }
     {
         let items = in_order(alloc, list.as_slice())?;
         let merged = list.len() - items.len() as u32;

@@ -20,8 +20,10 @@ pub(crate) fn join(
     requires points { IsPointSet points.now.points }
     requires q_in { q < length points.now.points }
     requires chain { IsChain side (point_at points.now.points) q (length chain.now) (slice_index chain.now) }
-    ensures joined { IfOk result (λ kept. GrowsByJoin side (point_at points.now.points) q chain.now kept tris.old.items tris.new.items) }
-    ensures hidden { IfOk result (λ kept. (k : ℕ) → k + 2 ≡ kept → IsHidden side (point_at points.now.points) q (slice_index chain.now) k) }
+    ensures joined { IfOk result (λ kept.
+        GrowsByJoin side (point_at points.now.points) q chain.now kept tris.old.items tris.new.items) }
+    ensures hidden { IfOk result (λ kept. (k : ℕ) → k + 2 ≡ kept →
+        IsHidden side (point_at points.now.points) q (slice_index chain.now) k) }
 {
     let mut kept = chain.len();
     while kept >= 2 && side.turn(points, chain[kept - 2], chain[kept - 1], q) < 0 {

@@ -21,7 +21,8 @@ impl Swept {
     /// All points swept.
     pub(crate) fn of(alloc: Global, points: &Points) -> Result<Swept, NoMemory>
         ensures valid { IsPointSet points.now.points }
-        ensures swept { IfOk result (λ s. IsSwept (point_at points.now.points) (length points.now.points) s.lower.items s.upper.items s.tris.items) }
+        ensures swept { IfOk result (λ s.
+            IsSwept (point_at points.now.points) (length points.now.points) s.lower.items s.upper.items s.tris.items) }
     {
         let count = points.len();
         let mut swept = Swept {
@@ -41,8 +42,10 @@ impl Swept {
     fn add(&mut self, points: &Points, q: u32) -> Result<(), NoMemory>
         requires points { IsPointSet points.now.points }
         requires q_in { q < length points.now.points }
-        requires swept { IsSwept (point_at points.now.points) q self.old.lower.items self.old.upper.items self.old.tris.items }
-        ensures { OnOk result (IsSwept (point_at points.now.points) (q + 1) self.new.lower.items self.new.upper.items self.new.tris.items) }
+        requires swept { IsSwept (point_at points.now.points) q
+            self.old.lower.items self.old.upper.items self.old.tris.items }
+        ensures { OnOk result (IsSwept (point_at points.now.points) (q + 1)
+            self.new.lower.items self.new.upper.items self.new.tris.items) }
     {
         let low = join(points, Side::Lower, q, &self.lower, &mut self.tris)?;
         let high = join(points, Side::Upper, q, &self.upper, &mut self.tris)?;

@@ -16,7 +16,8 @@ Grows (Some old) (Some new) bytes = new ≡ old ++ bytes
 
 -- a write took the first k bytes of the piece at `Ok(k)`, and nothing at a failure
 abbrev pub WriteGrows : {E : Type 0} → Option (List ℕ) → Option (List ℕ) → Result ℕ E → List ℕ → Type 0
-WriteGrows before after result piece = MatchResult result (λ k. Grows before after (take k piece)) (λ _. Grows before after [])
+WriteGrows before after result piece =
+    MatchResult result (λ k. Grows before after (take k piece)) (λ _. Grows before after [])
 
 -- these bytes were all that was left, and the end was seen
 abbrev pub ReadToEnd : Option (List ℕ) → Option (List ℕ) → List ℕ → Type 0

@@ -1,5 +1,5 @@
--- The text of a report: lines in a fixed order, each with one spelling. It is a draft, whose first line says version 0: the
--- lines of what is not built yet are not there.
+-- The text of a report: lines in a fixed order, each with one spelling. It is a draft, whose first line says version 0:
+-- the lines of what is not built yet are not there.
 use Rattle.std.specs.Prelude.{ℕ, pos, List, ◌++◌, length, flat_map, codes, decimal}
 use Rattle.std.specs.Fmt.{signed_decimal}
 use Rattle.mwt_base.specs.Line.{line}
@@ -34,7 +34,9 @@ block word item_line items = number_line word (length items) ++ flat_map item_li
 
 -- the lines before the blocks
 abbrev pub head_lines : Report → List ℕ
-head_lines r = line (codes "mwt 0") ++ line (codes "diamond off") ++ number_line (codes "unit") r.unit ++ number_line (codes "merged") r.merged
+head_lines r =
+    line (codes "mwt 0") ++ line (codes "diamond off")
+    ++ number_line (codes "unit") r.unit ++ number_line (codes "merged") r.merged
 
 -- the lines behind the blocks
 abbrev pub end_lines : Report → List ℕ

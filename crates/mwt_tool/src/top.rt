@@ -42,7 +42,8 @@ pub fn run<S: Source, K: Sink, G: Gate, R: Threads + Sync>(
     ensures reads { S.reads source.new ≤ S.reads source.old + (INPUT_LIMIT + 2) }
 
     // Where no fault was counted there is an answer, or want of memory.
-    ensures no_other { ¬ Rose (S.faults source.old) (S.faults source.new) → ¬ Rose (K.faults sink.old) (K.faults sink.new) →
+    ensures no_other { ¬ Rose (S.faults source.old) (S.faults source.new) →
+        ¬ Rose (K.faults sink.old) (K.faults sink.new) →
         IsAnswer result ⊎ (result ≡ Status.NoMemory) }
 
     // A file that is accepted is answered with a report.
