@@ -14,7 +14,7 @@ mod words;
 mod writer;
 
 pub use report::Report;
-pub use top::run;
+pub use top::{run, run_in_memory};
 
 /// The most bytes of input that are read.
 pub const INPUT_LIMIT: usize = 67_108_864;

@@ -1,12 +1,13 @@
 // The top call.
-ghost use Rattle.std.specs.Prelude.{◌≡◌, ◌⊎◌, ◌+◌, ◌≤◌};
+ghost use Rattle.std.specs.Prelude.{◌≡◌, ◌≢◌, ◌⊎◌, ◌+◌, ◌≤◌, Some};
 ghost use Rattle.mwt_base.specs.Causes.{Rose};
+ghost use Rattle.mwt_base.specs.Sure.{collected_bytes};
 ghost use Rattle.mwt_tool.specs.Said.{IsAcceptedInput, IsAnswer, ReadsUpTo, Says, SaysPrefix};
 ghost use Rattle.mwt_tool.specs.Words.{texts, ReadsInput};
 
 use crate::INPUT_LIMIT;
 use crate::answer::{Stop, decide};
-use mwt_base::{Gate, Sink, Source, Status, write_whole};
+use mwt_base::{Gate, Sink, Source, Status, SureSink, SureSource, write_whole};
 use std::alloc::Global;
 use std::thread::Threads;
 
@@ -59,4 +60,23 @@ pub fn run<S: Source, K: Sink, G: Gate, R: Threads + Sync>(
         Err(Stop::ReadFault) => Status::ReadFault,
         Err(Stop::NoMemory) => Status::NoMemory,
     }
+}
+
+/// The top call over a source and a sink in memory, where no fault is ever answered: the program as a
+/// function from words and bytes to a status and a text.
+pub fn run_in_memory<G: Gate, R: Threads + Sync>(
+    rt: &R,
+    alloc: Global,
+    words: &[String],
+    source: &mut SureSource,
+    sink: &mut SureSink,
+    gate: &G,
+) -> Status
+    ensures said { result ≢ Status.NoMemory →
+        Says (texts words.now) (Some source.old) result (collected_bytes sink.old) (collected_bytes sink.new) }
+    ensures no_fault { IsAnswer result ⊎ (result ≡ Status.NoMemory) }
+    ensures complete { IsAcceptedInput (texts words.now) (Some source.old) →
+        (result ≡ Status.Done) ⊎ (result ≡ Status.NoMemory) }
+{
+    run(rt, alloc, words, source, sink, gate)
 }
