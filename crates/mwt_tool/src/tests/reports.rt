@@ -87,8 +87,16 @@ fn three_points(rt: HostRuntime) -> Result<(), Fail> {
     solved(&rt, rt.alloc(), &[(0, 0), (3, 0), (0, 4)], text)
 }
 
+fn all_solved(rt: &(impl Threads + Sync + Abort), alloc: Global, rows: &[Row]) -> Result<(), Fail> {
+    for row in rows {
+        let text = report(alloc, row)?;
+        solved(rt, alloc, row.nodes, text.as_str())?;
+    }
+    Ok(())
+}
+
 #[test]
-fn more_points(rt: HostRuntime) -> Result<(), Fail> {
+fn quadrilaterals(rt: HostRuntime) -> Result<(), Fail> {
     let rows = [
         // The unit square.
         Row {
@@ -106,6 +114,34 @@ fn more_points(rt: HostRuntime) -> Result<(), Fail> {
             triangles: &[[0, 1, 2], [1, 3, 2]],
             length: "22.396076 22.396080",
         },
+        // The greatest coordinates.
+        Row {
+            nodes: &[
+                (-1_000_000_000, -1_000_000_000),
+                (1_000_000_000, -1_000_000_000),
+                (1_000_000_000, 1_000_000_000),
+                (-1_000_000_000, 1_000_000_000),
+            ],
+            order: &[1, 4, 2, 3],
+            hull: &[0, 2, 3, 1],
+            triangles: &[[0, 2, 1], [1, 2, 3]],
+            length: "10828427124.746190 10828427124.746191",
+        },
+        // A quadrilateral whose long diagonal the sweep takes.
+        Row {
+            nodes: &[(0, 0), (4, -5), (4, 5), (8, 0)],
+            order: &[1, 2, 3, 4],
+            hull: &[0, 1, 3, 2],
+            triangles: &[[0, 1, 2], [1, 3, 2]],
+            length: "35.612496 35.612500",
+        },
+    ];
+    all_solved(&rt, rt.alloc(), rows.as_slice())
+}
+
+#[test]
+fn points_inside_and_on_the_hull(rt: HostRuntime) -> Result<(), Fail> {
+    let rows = [
         // A square with its centre.
         Row {
             nodes: &[(0, 0), (4, 0), (4, 4), (0, 4), (2, 2)],
@@ -130,31 +166,6 @@ fn more_points(rt: HostRuntime) -> Result<(), Fail> {
             triangles: &[[0, 1, 2], [1, 3, 2]],
             length: "14.211102 14.211104",
         },
-        // The greatest coordinates.
-        Row {
-            nodes: &[
-                (-1_000_000_000, -1_000_000_000),
-                (1_000_000_000, -1_000_000_000),
-                (1_000_000_000, 1_000_000_000),
-                (-1_000_000_000, 1_000_000_000),
-            ],
-            order: &[1, 4, 2, 3],
-            hull: &[0, 2, 3, 1],
-            triangles: &[[0, 2, 1], [1, 2, 3]],
-            length: "10828427124.746190 10828427124.746191",
-        },
-        // A quadrilateral whose long diagonal the sweep takes.
-        Row {
-            nodes: &[(0, 0), (4, -5), (4, 5), (8, 0)],
-            order: &[1, 2, 3, 4],
-            hull: &[0, 1, 3, 2],
-            triangles: &[[0, 1, 2], [1, 3, 2]],
-            length: "35.612496 35.612500",
-        },
     ];
-    for row in rows {
-        let text = report(rt.alloc(), &row)?;
-        solved(&rt, rt.alloc(), row.nodes, text.as_str())?;
-    }
-    Ok(())
+    all_solved(&rt, rt.alloc(), rows.as_slice())
 }
