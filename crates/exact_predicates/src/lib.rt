@@ -3,6 +3,7 @@
 //! The definitions of hull, triangulation and length stand in `specs/`.
 #![tactic(auto)]
 
+mod diamond;
 mod edge;
 mod lists;
 mod point;
@@ -10,8 +11,9 @@ mod points;
 mod staying;
 mod tri;
 
+pub use diamond::Diamond;
 pub use edge::Edge;
-pub use lists::{Hull, PointList, Tris};
+pub use lists::{Edges, Hull, PointList, Tris};
 pub use point::{Point, d2, in_range, orient};
 pub use points::{Points, PointsStop};
 pub use tri::Tri;
