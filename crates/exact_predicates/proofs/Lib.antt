@@ -5,6 +5,7 @@ pub mod Codes
 pub mod Counts
 pub mod DistinctIds
 pub mod Elements
+pub mod Equalities
 pub mod Firsts
 pub mod Flatness
 pub mod Gaps

@@ -8,6 +8,7 @@ mod edge;
 mod lists;
 mod point;
 mod points;
+mod relations;
 mod staying;
 mod tri;
 
@@ -16,4 +17,7 @@ pub use edge::Edge;
 pub use lists::{Edges, Hull, PointList, Tris};
 pub use point::{Point, d2, in_range, orient};
 pub use points::{Points, PointsStop};
+pub use relations::{
+    crosses, in_closed_triangle, in_left_diamond, strictly_between, strictly_convex,
+};
 pub use tri::Tri;
