@@ -1,4 +1,5 @@
 pub mod Files
 pub mod Numerals
+pub mod Pieces
 pub mod Readings
 pub mod Words

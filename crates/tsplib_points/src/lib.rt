@@ -2,10 +2,12 @@
 //! Today it takes plain files alone: one spelling of each list of points.
 #![tactic(auto)]
 
+mod cuts;
 mod decimal;
 mod file;
 mod gather;
 mod guess;
+mod lines;
 mod node;
 mod plain;
 mod reason;
