@@ -1,3 +1,4 @@
+pub mod Digits
 pub mod Files
 pub mod Numerals
 pub mod Pieces

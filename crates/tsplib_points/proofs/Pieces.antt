@@ -1,9 +1,9 @@
 -- How a text is cut into lines and words.
-use Rattle.std.proofs.Common.{◌≡◌, ℕ, suc, ◌+◌, ◌<◌, ◌≤◌, Bool, true, false, not, cond, eqb, List, [], ◌∷◌, length, take, drop, map, filter, ◌⊎◌, inl, inr, refl, sym, ap, ◌∙◌, arith}
-use Rattle.std.specs.List.{slice_split, position_or_len, prefix_len, before_first, after_first}
+use Rattle.std.proofs.Common.{◌≡◌, ℕ, suc, ◌+◌, ◌<◌, ◌≤◌, Bool, true, false, not, is_some, cond, eqb, List, [], ◌∷◌, length, take, drop, map, filter, ◌⊎◌, inl, inr, refl, sym, ap, ◌∙◌, arith}
+use Rattle.std.specs.List.{slice_split, list_any, position, position_or_len, prefix_len, before_first, after_first}
 use Rattle.std.proofs.Math.Seq.{take-length}
 use Rattle.std.proofs.Math.ListN.{drop_of_length-le}
-use Rattle.std.proofs.lemmas.Bool.{cases_lt, eqb-true, false≢true}
+use Rattle.std.proofs.lemmas.Bool.{cases_lt, lt-ltb, le-ltb, eqb-true, false≢true}
 use Rattle.std.proofs.lemmas.List.Sums.{prefix_len-le-length, fails_before_first}
 use Rattle.std.proofs.lemmas.List.Splits.{slice_split_first, slice_split_none, length-slice_split, slice_split-cons_yes}
 use Rattle.tsplib_points.specs.Lines.{is_line_feed, is_blank, texts, without_return, without_empty_last, is_empty, trim_front, words}
@@ -27,6 +27,28 @@ whole p xs h =
       before = rw all (take-length xs);
       after = drop_of_length-le xs (omega arith);
     }
+
+-- an element that passes stands before the end
+pub some_any : (p : ℕ → Bool) (xs : List ℕ) → position_or_len p xs < length xs → list_any p xs ≡ true
+some_any p [] h = absurd (omega arith)
+some_any p (x ∷ xs) h = elim (true_or_false (p x)) [
+  | inl e ↦ rw e refl
+  | inr e ↦ let g : position_or_len p xs < length xs = omega (arith, rw e at h) in rw e (some_any p xs g)
+]
+
+pub none_any : (p : ℕ → Bool) (xs : List ℕ) → length xs ≤ position_or_len p xs → list_any p xs ≡ false
+none_any p [] h = refl
+none_any p (x ∷ xs) h = elim (true_or_false (p x)) [
+  | inl e ↦ absurd (omega (arith, rw e at h))
+  | inr e ↦ let g : length xs ≤ position_or_len p xs = omega (arith, rw e at h) in rw e (none_any p xs g)
+]
+
+-- some place is found exactly where an element passes
+pub is_some-position : (p : ℕ → Bool) (xs : List ℕ) → is_some (position p xs) ≡ list_any p xs
+is_some-position p xs = elim (cases_lt (position_or_len p xs) (length xs)) [
+  | inl i ↦ rw (lt-ltb _ _ i, some_any p xs i) refl
+  | inr i ↦ rw (le-ltb _ _ i, none_any p xs i) refl
+]
 
 -- a piece that is not the last one stays
 keeps_first : (a : List ℕ) (qs : List (List ℕ)) → 0 < length qs → without_empty_last (a ∷ qs) ≡ a ∷ without_empty_last qs

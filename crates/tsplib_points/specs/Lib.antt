@@ -7,5 +7,6 @@ pub mod Nodes
 pub mod Refusals
 pub mod Files
 pub mod Kept
+pub mod Told
 pub mod Gathering
 pub mod Plain
