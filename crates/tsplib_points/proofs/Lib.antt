@@ -1,6 +1,8 @@
-pub mod Digits
+pub mod DigitTexts
 pub mod Files
+pub mod KeptReals
 pub mod Numerals
 pub mod Pieces
 pub mod Readings
 pub mod Words
+pub mod Tens

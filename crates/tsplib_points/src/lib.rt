@@ -4,6 +4,7 @@
 
 mod cuts;
 mod decimal;
+mod digits;
 mod file;
 mod gather;
 mod guess;
