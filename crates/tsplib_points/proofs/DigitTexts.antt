@@ -20,7 +20,7 @@ pub no_number : (t : List ℕ) → is_digits t ≡ false → small_number t ≡ 
 unfolding small_number
 no_number t h = rw h refl
 
-and_false : (b : Bool) → (b && false) ≡ false
+pub and_false : (b : Bool) → (b && false) ≡ false
 and_false true = refl
 and_false false = refl
 

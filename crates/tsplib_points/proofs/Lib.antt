@@ -4,5 +4,6 @@ pub mod KeptReals
 pub mod Numerals
 pub mod Pieces
 pub mod Readings
+pub mod RealTexts
 pub mod Words
 pub mod Tens

@@ -50,6 +50,13 @@ is_some-position p xs = elim (cases_lt (position_or_len p xs) (length xs)) [
   | inr i ↦ rw (le-ltb _ _ i, none_any p xs i) refl
 ]
 
+-- nothing stands behind where no element passes
+pub none_behind : (p : ℕ → Bool) (xs : List ℕ) → is_some (position p xs) ≡ false → after_first p xs ≡ []
+none_behind p xs none = elim (cases_lt (position_or_len p xs) (length xs)) [
+  | inl i ↦ absurd (false≢true (sym none ∙ is_some-position p xs ∙ some_any p xs i))
+  | inr i ↦ let w = whole p xs i in w.after
+]
+
 -- a piece that is not the last one stays
 keeps_first : (a : List ℕ) (qs : List (List ℕ)) → 0 < length qs → without_empty_last (a ∷ qs) ≡ a ∷ without_empty_last qs
 keeps_first a [] h = absurd (omega arith)

@@ -1,13 +1,13 @@
 -- Powers of ten, and decimals by their last digit that is not 0.
-use Rattle.std.proofs.Common.{◌≡◌, ◌≢◌, ℕ, zero, suc, ◌+◌, ◌-◌, ◌*◌, ◌/◌, ◌%◌, ◌^◌, ◌<◌, ◌≤◌, min, Bool, true, false, cond, eqb, List, [], ◌∷◌, ◌++◌, ◌⊎◌, inl, inr, refl, sym, ap, ◌∙◌, subst, arith}
+use Rattle.std.proofs.Common.{◌≡◌, ℕ, zero, suc, ◌+◌, ◌-◌, ◌*◌, ◌/◌, ◌%◌, ◌^◌, ◌<◌, ◌≤◌, min, true, false, inl, inr, refl, sym, ap, ◌∙◌, arith}
 use Rattle.std.proofs.lemmas.Nat.{pow-add, mod-mul-add}
 use Rattle.std.proofs.lemmas.Nat.Gcd.{dvd_of_mod-eq-zero}
 use Rattle.std.proofs.Math.Nat.{mul-mod_left, mul-div_cancel, div-mul_cancel, zero-mod}
-use Rattle.std.proofs.lemmas.Bool.{eq-eqb, eqb-true, ne_eqb, cases_lt}
+use Rattle.std.proofs.lemmas.Bool.{eq-eqb, ne_eqb, cases_lt}
 use Rattle.std.proofs.lemmas.Bool.Decides.{nat_tests}
 use Rattle.tsplib_points.specs.Numbers.{is_digit}
 use Rattle.tsplib_points.specs.Real.{Real, is_whole, size_times}
-use Rattle.tsplib_points.specs.Kept.{Holds, Keeps}
+use Rattle.tsplib_points.specs.Kept.{Holds}
 
 pub ten_more : (k : ℕ) → 10 ^ (k + 1) ≡ 10 ^ k * 10
 ten_more k = pow-add 10 k 1
@@ -122,12 +122,14 @@ holds_push head zeros n d h some low =
       regroup : (f z : ℕ) → f * (z * 10) ≡ f * z * 10
       regroup f z = omega arith
 
+pub mul_ge : (a b : ℕ) → 0 < a → b ≤ a * b
+mul_ge zero b i = absurd (omega arith)
+mul_ge (suc a) b i = let e : suc a ≡ a + 1 = omega arith in rw e (omega arith)
+
+-- a number with ten zeros is above the cap
 pub large_plus : (n k d : ℕ) → 0 < n → 9 < k → 1000000001 ≡ min (n * 10 ^ k + d) 1000000001
 large_plus n k d some h =
-    omega (arith, mul_ge n (10 ^ k) some, ten_le 10 k (omega arith)) where
-      mul_ge : (a b : ℕ) → 0 < a → b ≤ a * b
-      mul_ge zero b i = absurd (omega arith)
-      mul_ge (suc a) b i = let e : suc a ≡ a + 1 = omega arith in rw e (omega arith)
+    omega (arith, mul_ge n (10 ^ k) some, ten_le 10 k (omega arith))
 
 pub digit_low : (b : ℕ) → is_digit b ≡ true → b ≤ 57
 digit_low b h = grind (arith, nat_tests)

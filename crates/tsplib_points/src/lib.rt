@@ -14,6 +14,7 @@ mod node;
 mod numbers;
 mod plain;
 mod reason;
+mod reals;
 mod spelling;
 
 pub use file::{File, FileStop, Refusal};

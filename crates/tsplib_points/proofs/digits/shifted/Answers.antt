@@ -1,5 +1,5 @@
-use Rattle.std.proofs.Common.{◌≡◌, ℕ, arith, zero, suc, ◌*◌, ◌≤◌, ◌<◌}
-use Rattle.tsplib_points.proofs.Tens.{ten_le, large_plus}
+use Rattle.std.proofs.Common.{arith}
+use Rattle.tsplib_points.proofs.Tens.{large_plus}
 use Rattle.tsplib_points.proofs.digits.shifted.Goals as goal
 
 pub returns-then-k-gt9 : goal.returns-then-k-gt9

@@ -1,6 +1,5 @@
-use Rattle.std.proofs.Common.{◌≡◌, ◌+◌, ◌*◌, ◌-◌, ◌<◌, ◌≤◌, ℕ, arith, sym, rules}
-use Rattle.tsplib_points.specs.Kept.{Holds}
-use Rattle.tsplib_points.proofs.Tens.{holds_push, holds_more, holds_stay, digit_low, digit_high}
+use Rattle.std.proofs.Common.{◌≡◌, ◌-◌, arith}
+use Rattle.tsplib_points.proofs.Tens.{holds_push, holds_more, digit_low, digit_high}
 use Rattle.tsplib_points.proofs.digits.Digits.push.Goals as goal
 
 pub returns-then-b-ne48-clause-value : goal.returns-then-b-ne48-clause-value
