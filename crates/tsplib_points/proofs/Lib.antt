@@ -1,6 +1,7 @@
 pub mod DigitTexts
 pub mod Files
 pub mod KeptReals
+pub mod NodeTexts
 pub mod Numerals
 pub mod Pieces
 pub mod Readings
