@@ -1,10 +1,13 @@
 pub mod DigitTexts
 pub mod Files
+pub mod Growth
 pub mod KeptReals
 pub mod NodeTexts
 pub mod Numerals
+pub mod Passes
 pub mod Pieces
 pub mod Readings
 pub mod RealTexts
 pub mod Words
+pub mod Steps
 pub mod Tens

@@ -10,4 +10,5 @@ pub mod Kept
 pub mod Reads
 pub mod Told
 pub mod Gathering
+pub mod Passing
 pub mod Plain
