@@ -9,5 +9,6 @@ pub mod Pieces
 pub mod Readings
 pub mod RealTexts
 pub mod Words
+pub mod Scans
 pub mod Steps
 pub mod Tens

@@ -121,10 +121,10 @@ pub fn gather(alloc: Global, bytes: &[u8]) -> Result<Gathered, FileStop>
 {
     let mut pass = Pass::new(alloc);
     let mut lines = Lines::of(bytes);
-    let mut number = 1;
+    let mut number = 0;
     while let Some(text) = lines.next() {
-        pass.line(number, text)?;
         number += 1;
+        pass.line(number, text)?;
     }
     Ok(pass.found)
 }
