@@ -1,11 +1,11 @@
 -- What one more line adds to the lines of the header and to the nodes.
-use Rattle.std.proofs.Common.{◌≡◌, ℕ, Bool, true, false, ◌||◌, cond, List, [], ◌∷◌, ◌++◌, Option, Some, None, ◌⊎◌, inl, inr, refl, sym, ap, ◌∙◌, find, filter_map}
+use Rattle.std.proofs.Common.{◌≡◌, true, false, List, [], ◌∷◌, ◌++◌, None, ◌⊎◌, inl, inr, refl, sym, ap, ◌∙◌, find, filter_map}
 use Rattle.std.specs.List.{list_any, after_first, before_first, cons_option}
 use Rattle.std.specs.Option.{option_and_then}
 use Rattle.std.proofs.lemmas.List.Elements.{filter_map-append}
 use Rattle.tsplib_points.specs.Lines.{Line}
 use Rattle.tsplib_points.specs.Header.{is_end, is_section, is_dimension, lines_to_end, header_lines, section_lines, dimension_in, dimension}
-use Rattle.tsplib_points.specs.Nodes.{Node, node_of, nodes}
+use Rattle.tsplib_points.specs.Nodes.{node_of, nodes}
 use Rattle.tsplib_points.proofs.Pieces.{true_or_false}
 use Rattle.tsplib_points.proofs.Passes.{before_none, after_none, before_some, after_some, before_last, after_last, any_push_no, find_push_no, find_push_yes}
 

@@ -1,9 +1,8 @@
 -- One more line behind those of a pass.
-use Rattle.std.proofs.Common.{◌≡◌, ℕ, suc, ◌+◌, Bool, true, false, not, ◌&&◌, ◌||◌, cond, List, [], ◌∷◌, ◌++◌, length, take, drop, eqb, Option, Some, None, is_some, ◌⊎◌, inl, inr, refl, sym, ap, ◌∙◌, arith, find, filter_map, append_assoc}
-use Rattle.std.specs.List.{AllZip, list_any, list_all, position_or_len, prefix_len, after_first, before_first, cons_option}
-use Rattle.std.specs.Option.{option_or, option_map, option_and_then}
+use Rattle.std.proofs.Common.{◌≡◌, ℕ, suc, ◌+◌, Bool, true, false, ◌||◌, List, [], ◌∷◌, ◌++◌, take, drop, Option, Some, None, inl, inr, refl, sym, ap, ◌∙◌, arith, find}
+use Rattle.std.specs.List.{AllZip, list_any, position_or_len, after_first, before_first}
+use Rattle.std.specs.Option.{option_or}
 use Rattle.std.proofs.lemmas.List.Folds.{list_any-append, find-append}
-use Rattle.std.proofs.lemmas.List.Elements.{filter_map-append}
 use Rattle.tsplib_points.proofs.Pieces.{true_or_false}
 
 -- behind one element more, where it passes and where it does not

@@ -67,10 +67,6 @@ one_left : (a : List ℕ) → 0 < length a → without_empty_last (a ∷ []) ≡
 one_left (x ∷ a) h = refl
 one_left [] h = absurd (omega arith)
 
-pub texts_none : texts [] ≡ []
-unfolding texts
-texts_none = refl
-
 -- the test of a length, as the test of a text
 pub nothing : (bs : List ℕ) → eqb (length bs) 0 ≡ true → is_empty bs ≡ true
 nothing [] h = refl

@@ -1,7 +1,6 @@
 -- A pass goes over one more line.
-use Rattle.std.proofs.Common.{◌≡◌, ℕ, zero, suc, ◌+◌, ◌-◌, Bool, true, false, not, ◌&&◌, ◌||◌, cond, eqb, List, [], ◌∷◌, ◌++◌, length, take, drop, Option, Some, None, is_some, ◌⊎◌, inl, inr, refl, sym, ap, ◌∙◌, arith, bytes_eq, codes, IsSomeAnd}
-use Rattle.std.specs.List.{AllZip, list_any, list_all, prefix_len, before_first, cons_option}
-use Rattle.std.specs.Option.{option_map}
+use Rattle.std.proofs.Common.{◌≡◌, ℕ, zero, suc, ◌+◌, Bool, true, false, not, ◌&&◌, ◌||◌, cond, eqb, List, [], ◌∷◌, ◌++◌, take, drop, Option, Some, None, is_some, inl, inr, refl, sym, ap, ◌∙◌, arith, bytes_eq, codes, IsSomeAnd}
+use Rattle.std.specs.List.{list_any, list_all, prefix_len, before_first, cons_option}
 use Rattle.std.specs.Ordering.{nat_cmp}
 use Rattle.std.specs.BTreeSet.{BTreeSet, contains}
 use Rattle.std.specs.BTreeMap.{is_at}
@@ -9,11 +8,10 @@ use Rattle.std.proofs.lemmas.Bool.Decides.{nat_tests}
 use Rattle.std.proofs.lemmas.Slice.Eq.{bytes_eq-Decides}
 use Rattle.tsplib_points.specs.declared.node.KeptNode.{KeptNode}
 use Rattle.tsplib_points.specs.declared.gather.Pass.{Pass}
-use Rattle.tsplib_points.specs.declared.reason.Reason.{Reason}
 use Rattle.tsplib_points.specs.declared.reason.Reason.TheVariants.{RepeatedId, AfterEnd}
 use Rattle.tsplib_points.specs.Lines.{Line, is_blank, is_empty, trim_front, trim_back, trim, words}
 use Rattle.tsplib_points.specs.Numbers.{small_number}
-use Rattle.tsplib_points.specs.Header.{Parts, parts_of, is_colon, is_mark, is_entry, is_end_mark, is_section_mark, is_dimension_entry, header_reason, is_end, is_section, is_dimension, lines_to_end, header_lines, section_lines, dimension}
+use Rattle.tsplib_points.specs.Header.{Parts, parts_of, is_colon, is_end_mark, is_section_mark, is_dimension_entry, header_reason, is_end, is_section, is_dimension, lines_to_end, header_lines, section_lines, dimension}
 use Rattle.tsplib_points.specs.Nodes.{Node, node_of, nodes, node_reason, has_number}
 use Rattle.tsplib_points.specs.Refusals.{line_reason}
 use Rattle.tsplib_points.specs.Gathering.{KeepsNode}

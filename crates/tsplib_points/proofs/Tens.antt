@@ -88,9 +88,6 @@ capped full p d h = elim (cases_lt full 1000000001) [
       rw e (omega (arith, mul_le_grows 1000000001 1000000001 p h (omega arith), mul_le_grows 1000000001 full p h high))
 ]
 
-pub holds_zero : Holds 0 0 0
-holds_zero = record { full = 0; is = omega arith; head_is = refl; last = λ e. refl }
-
 pub holds_more : (head zeros n : ℕ) → Holds head zeros n → Holds head (zeros + 1) (10 * n + 0)
 holds_more head zeros n h = record {
   full = h.full;
@@ -103,12 +100,6 @@ pub holds_none : (head zeros n : ℕ) → Holds head zeros n → head ≡ 0 → 
 holds_none head zeros n h e =
     let f : h.full ≡ 0 = omega (arith, h.head_is) in
     h.is ∙ rw f (zero_mul (10 ^ zeros))
-
-pub holds_stay : (head zeros n : ℕ) → Holds head zeros n → head ≡ 0 → Holds head zeros (10 * n + 0)
-holds_stay head zeros n h e =
-    let f = holds_none head zeros n h e in
-    let g : 10 * n + 0 ≡ n = omega arith in
-    rw g h
 
 pub holds_push : (head zeros n d : ℕ) → Holds head zeros n → 0 < d → d ≤ 9 → Holds (min (head * 10 ^ (zeros + 1) + d) 1000000001) 0 (10 * n + d)
 holds_push head zeros n d h some low =

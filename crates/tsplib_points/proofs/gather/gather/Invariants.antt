@@ -1,4 +1,4 @@
-use Rattle.std.proofs.Common.{◌≡◌, ◌+◌, ◌≤◌, List, length}
+use Rattle.std.proofs.Common.{◌+◌, ◌≤◌, List, length}
 use Rattle.tsplib_points.specs.Lines.{Line, lines, texts, numbered}
 use Rattle.tsplib_points.specs.Passing.{IsPassed}
 use Rattle.tsplib_points.proofs.Scans.{IsAt}

@@ -1,4 +1,4 @@
-use Rattle.std.proofs.Common.{◌≡◌, Some, sym, ap, ◌∙◌}
+use Rattle.std.proofs.Common.{Some, sym, ap, ◌∙◌}
 use Rattle.tsplib_points.specs.Lines.{Line}
 use Rattle.tsplib_points.specs.Header.{header_reason, parts_of}
 use Rattle.tsplib_points.proofs.Steps.{reason_header, dimension_known, first_dimension, passes_end, passes_section, passes_dimension, passes_entry}

@@ -1,4 +1,4 @@
-use Rattle.std.proofs.Common.{◌≡◌, Some, sym, ap, ◌∙◌}
+use Rattle.std.proofs.Common.{Some, sym, ap, ◌∙◌}
 use Rattle.tsplib_points.specs.Lines.{Line}
 use Rattle.tsplib_points.proofs.Steps.{reason_blank, reason_ended, blank_nothing, passes_nothing}
 use Rattle.tsplib_points.proofs.gather.Pass.line.Goals as goal

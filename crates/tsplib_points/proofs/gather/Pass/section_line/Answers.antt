@@ -1,6 +1,6 @@
-use Rattle.std.proofs.Common.{◌≡◌, refl, Some, sym, ap, ◌∙◌}
+use Rattle.std.proofs.Common.{refl, Some, sym, ap, ◌∙◌}
 use Rattle.tsplib_points.specs.Lines.{Line}
-use Rattle.tsplib_points.specs.Header.{is_end, parts_of, is_end_mark}
+use Rattle.tsplib_points.specs.Header.{is_end, is_end_mark}
 use Rattle.tsplib_points.specs.Nodes.{nodes, node_reason}
 use Rattle.tsplib_points.proofs.Steps.{reason_end, reason_section, passes_end, passes_node, kept_node, node_judged, more_numbers, not_new, is_new_number}
 use Rattle.tsplib_points.proofs.gather.Pass.section_line.Goals as goal
