@@ -2,9 +2,13 @@
 //! Today it takes plain files alone: one spelling of each list of points.
 #![tactic(auto)]
 
+mod decimal;
 mod file;
+mod gather;
 mod guess;
+mod node;
 mod plain;
+mod reason;
 mod spelling;
 
 pub use file::{File, FileStop, Refusal};
