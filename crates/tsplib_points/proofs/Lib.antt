@@ -1,3 +1,6 @@
+pub mod ScaledPoints
+pub mod Sizes
+pub mod Units
 pub mod Files
 pub mod Numerals
 pub mod Readings

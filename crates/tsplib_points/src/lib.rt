@@ -8,8 +8,10 @@ mod gather;
 mod guess;
 mod node;
 mod plain;
+mod reader;
 mod reason;
+mod scaling;
 mod spelling;
 
 pub use file::{File, FileStop, Refusal};
-pub use plain::read_points;
+pub use reader::read_points;
