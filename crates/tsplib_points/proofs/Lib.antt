@@ -1,3 +1,7 @@
+pub mod DistinctNumbers
+pub mod Rules
+pub mod SectionNodes
+pub mod FirstPlaces
 pub mod ScaledPoints
 pub mod Sizes
 pub mod Units

@@ -17,10 +17,10 @@ use Rattle.tsplib_points.specs.Gathering.{KeepsNode}
 use Rattle.tsplib_points.specs.Refusals.{scaled, is_large}
 
 -- a node that stands where there is none
-nothing : Real
+pub nothing : Real
 nothing = record { negative = false; digits = 0; places = 0; right = 0; left = 0 }
 
-nowhere : Node
+pub nowhere : Node
 nowhere = record { line = 0; number = 0; x = nothing; y = nothing }
 
 -- what is known of the two items at a place

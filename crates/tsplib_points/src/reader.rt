@@ -1,8 +1,9 @@
 // Reads a point file.
-ghost use Rattle.std.specs.Prelude.{◌≡◌, true, Some, IfOk, IfErr};
+ghost use Rattle.std.specs.Prelude.{◌≡◌, ◌⊎◌, ℕ, true, Some, IfOk, IfErr};
 ghost use Rattle.std.specs.List.{list_all};
 ghost use Rattle.exact_predicates.specs.Merging.{IsMadeFrom, points_code, has_distinct_ids, is_in_range};
 ghost use Rattle.tsplib_points.specs.declared.file.Refusal.{Refusal as refusal_type};
+ghost use Rattle.tsplib_points.specs.Reasons.{refused};
 ghost use Rattle.tsplib_points.specs.Refusals.{is_count, points_refusal, refusal};
 ghost use Rattle.tsplib_points.specs.Files.{IsFileOf};
 
@@ -24,6 +25,20 @@ fn is_count(told: Option<u32>, count: usize) -> bool
     }
 }
 
+// Why a file is refused whose points, in range and with distinct ids, break this rule of a set of
+// points.
+fn reason_of(rule: u32) -> Reason
+    requires { (rule ≡ 2) ⊎ (rule ≡ 1) ⊎ (rule ≡ 3) }
+    ensures { points_refusal (Some rule) ≡ Some (refused result) }
+{
+    match PointsStop::Refused(rule) {
+        PointsStop::TOO_MANY => Reason::TooMany,
+        PointsStop::TOO_FEW => Reason::TooFew,
+        PointsStop::FLAT => Reason::Flat,
+        _ => unreachable!(),
+    }
+}
+
 // The points of a problem, made from points in range with distinct ids.
 fn lawful(alloc: Global, list: PointList) -> Result<Points, FileStop>
     requires in_range { list_all is_in_range list ≡ true }
@@ -32,15 +47,11 @@ fn lawful(alloc: Global, list: PointList) -> Result<Points, FileStop>
     ensures refused { IfErr result (λ stop. (why : refusal_type) → stop ≡ FileStop.Refused why →
         points_refusal (points_code list) ≡ Some why) }
 {
-    let why = match Points::new(alloc, list) {
-        Ok(points) => return Ok(points),
-        Err(PointsStop::NoMemory) => return Err(FileStop::NoMemory),
-        Err(PointsStop::TOO_MANY) => Reason::TooMany,
-        Err(PointsStop::TOO_FEW) => Reason::TooFew,
-        Err(PointsStop::FLAT) => Reason::Flat,
-        Err(_) => unreachable!(),
-    };
-    Err(FileStop::Refused(why.of_file()))
+    match Points::new(alloc, list) {
+        Ok(points) => Ok(points),
+        Err(PointsStop::NoMemory) => Err(FileStop::NoMemory),
+        Err(PointsStop::Refused(rule)) => Err(FileStop::Refused(reason_of(rule).of_file())),
+    }
 }
 
 /// The points of a file, in the least unit in which all its coordinates are whole. Nodes with the
