@@ -1,3 +1,4 @@
+pub mod WholeFile
 pub mod DistinctNumbers
 pub mod Rules
 pub mod SectionNodes

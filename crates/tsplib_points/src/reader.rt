@@ -1,5 +1,5 @@
 // Reads a point file.
-ghost use Rattle.std.specs.Prelude.{◌≡◌, ◌⊎◌, ℕ, true, Some, IfOk, IfErr};
+ghost use Rattle.std.specs.Prelude.{◌≡◌, ◌⊎◌, ◌<◌, ◌^◌, length, IsTrue, true, Some, IfOk, IfErr};
 ghost use Rattle.std.specs.List.{list_all};
 ghost use Rattle.exact_predicates.specs.Merging.{IsMadeFrom, points_code, has_distinct_ids, is_in_range};
 ghost use Rattle.tsplib_points.specs.declared.file.Refusal.{Refusal as refusal_type};
@@ -9,18 +9,20 @@ ghost use Rattle.tsplib_points.specs.Files.{IsFileOf};
 
 use crate::file::{File, FileStop};
 use crate::gather::gather;
+use crate::node::KeptNode;
 use crate::reason::Reason;
 use crate::scaling::{points, unit_of};
 use exact_predicates::{PointList, Points, PointsStop};
 use mwt_base::Bytes;
 use std::alloc::Global;
 
-// Whether DIMENSION tells this number of nodes.
-fn is_count(told: Option<u32>, count: usize) -> bool
-    ensures { result ≡ is_count told count }
+// Whether DIMENSION tells the number of these nodes.
+fn is_count(told: Option<u32>, nodes: &[KeptNode]) -> bool
+    ensures is { result ≡ is_count told (length nodes.now) }
+    ensures few { IsTrue result → length nodes.now < 2 ^ 32 }
 {
     match told {
-        Some(told) => told as usize == count,
+        Some(told) => told as usize == nodes.len(),
         None => false,
     }
 }
@@ -69,7 +71,7 @@ pub fn read_points(alloc: Global, bytes: &Bytes) -> Result<File, FileStop>
     if !found.has_section {
         return Err(FileStop::Refused(Reason::NoCoords.of_file()));
     }
-    if !is_count(found.dimension, found.nodes.len()) {
+    if !is_count(found.dimension, &found.nodes) {
         return Err(FileStop::Refused(Reason::Count.of_file()));
     }
     let unit = unit_of(&found.nodes);
