@@ -1,5 +1,5 @@
 -- In a file of which no line fails no two nodes have one number.
-use Rattle.std.proofs.Common.{◌≡◌, ◌≢◌, ℕ, zero, suc, ◌<◌, unsigned_abs, Bool, true, false, not, ◌&&◌, ◌||◌, cond, ltb, find, List, [], ◌∷◌, ◌++◌, length, get_or, map, Option, Some, None, AllPairs, inl, inr, refl, sym, ap, ◌∙◌, subst, append_assoc, arith}
+use Rattle.std.proofs.Common.{◌≡◌, ◌≢◌, ℕ, zero, suc, ◌<◌, unsigned_abs, Bool, true, false, not, ◌&&◌, ◌||◌, cond, ltb, find, List, [], ◌∷◌, ◌++◌, length, map, Option, Some, None, AllPairs, inl, inr, refl, sym, ap, ◌∙◌, subst, append_assoc, arith}
 use Rattle.std.specs.List.{list_any, list_all, cons_option}
 use Rattle.std.specs.Option.{option_or, option_map}
 use Rattle.std.proofs.lemmas.Bool.{cases_Bool, both_ways, eq-eqb}
@@ -47,11 +47,11 @@ next_line before l fine own =
         | inr more ↦ elim (cases_Bool (list_any is_section before)) [
           | inr header ↦ let P : List Node → Type 0 = HaveOwnNumbers in subst P (sym (nodes-header before l going more header)) own
           | inl section ↦
-            let P : List Node → Type 0 = HaveOwnNumbers in
-            subst P (sym (nodes-section before l going more section)) (elim (cases_Bool (is_blank_line l)) [
-              | inl blank ↦ rw (node_of-blank l blank, append-nil (nodes before)) own
-              | inr some ↦ own_number (nodes before) (node_of l) (rw (some, going, section, more) at fine) own
-            ])
+              let P : List Node → Type 0 = HaveOwnNumbers in
+              subst P (sym (nodes-section before l going more section)) (elim (cases_Bool (is_blank_line l)) [
+                | inl blank ↦ rw (node_of-blank l blank, append-nil (nodes before)) own
+                | inr some ↦ own_number (nodes before) (node_of l) (rw (some, going, section, more) at fine) own
+              ])
         ]
       ]
     ]
@@ -80,11 +80,11 @@ pub distinct_ids : (k : ℕ) (ls : List Line) → first_failing [] ls ≡ None �
 distinct_ids k ls fine =
     let ns = nodes ls in
     (Decides-has_distinct_ids (map (scaled k) ns)).1 (λ i j d below within same.
-      let all = length-map ns (scaled k) in
-      let last : j < length ns = omega arith in
-      let first : i < length ns = omega arith in
-      own_numbers ls fine i j nowhere below last
-      (ap (λ p. p.id) (sym (get_or-map (scaled k) ns i nowhere d first)) ∙ same ∙ ap (λ p. p.id) (get_or-map (scaled k) ns j nowhere d last)))
+    let all = length-map ns (scaled k) in
+    let last : j < length ns = omega arith in
+    let first : i < length ns = omega arith in
+    own_numbers ls fine i j nowhere below last
+    (ap (λ p. p.id) (sym (get_or-map (scaled k) ns i nowhere d first)) ∙ same ∙ ap (λ p. p.id) (get_or-map (scaled k) ns j nowhere d last)))
 
 -- No point is out of range where no node is too large.
 signed_size : (negative : Bool) (n : ℕ) → unsigned_abs (signed negative n) ≡ n

@@ -1,12 +1,8 @@
-pub mod WholeFile
 pub mod DistinctNumbers
-pub mod Rules
-pub mod SectionNodes
 pub mod FirstPlaces
+pub mod Rules
 pub mod ScaledPoints
+pub mod SectionNodes
 pub mod Sizes
 pub mod Units
-pub mod Files
-pub mod Numerals
-pub mod Readings
-pub mod Words
+pub mod WholeFile

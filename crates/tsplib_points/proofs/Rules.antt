@@ -1,5 +1,5 @@
 -- The refusal of a file, rule by rule.
-use Rattle.std.proofs.Common.{◌≡◌, ℕ, Bool, true, false, not, cond, List, [], length, map, find, Option, Some, None, refl, ap, ◌∙◌}
+use Rattle.std.proofs.Common.{◌≡◌, ℕ, true, false, List, [], length, map, find, Some, None, refl, ap}
 use Rattle.std.specs.Option.{option_or, option_map}
 use Rattle.std.specs.List.{list_any}
 use Rattle.exact_predicates.specs.Merging.{points_code}
@@ -32,6 +32,6 @@ refusal-count bytes fine section count = rw (fine, section, count) refl
 pub refusal-points : (bytes : List ℕ) → first_failing [] (lines bytes) ≡ None → list_any is_section (lines bytes) ≡ true
     → is_count (dimension (lines bytes)) (length (nodes_of bytes)) ≡ true
     → refusal bytes ≡ option_or (option_map (λ n. refused_at n.line TooLarge) (find (is_large (unit (nodes_of bytes))) (nodes_of bytes)))
-        (points_refusal (points_code (map (scaled (unit (nodes_of bytes))) (nodes_of bytes))))
+    (points_refusal (points_code (map (scaled (unit (nodes_of bytes))) (nodes_of bytes))))
 unfolding refusal file_refusal
 refusal-points bytes fine section count = rw (fine, section, count) refl

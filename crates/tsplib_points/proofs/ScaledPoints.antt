@@ -1,14 +1,13 @@
 -- The points of the first nodes of a file, in the unit of the file.
 use Rattle.std.proofs.Common.{◌≡◌, ℕ, zero, suc, ◌+◌, ◌<◌, ◌≤◌, Bool, true, false, cond, List, [], ◌∷◌, ◌++◌, length, get_or, take, drop, map, find, Option, Some, None, refl, sym, ap, ◌∙◌, arith}
 use Rattle.std.specs.List.{AllZip}
-use Rattle.std.specs.Option.{option_map, option_or}
+use Rattle.std.specs.Option.{option_map}
 use Rattle.std.proofs.Math.Seq.{drop-cons}
 use Rattle.std.proofs.lemmas.List.{take_more, take_all, take-append-drop, map-append}
 use Rattle.std.proofs.lemmas.List.Folds.{find-append}
 use Rattle.std.proofs.lemmas.Slice.Zip.{AllZip-long}
 use Rattle.exact_predicates.specs.declared.point.Point.{Point}
 use Rattle.tsplib_points.specs.declared.node.KeptNode.{KeptNode}
-use Rattle.tsplib_points.specs.declared.file.Refusal.{Refusal}
 use Rattle.tsplib_points.specs.declared.reason.Reason.TheVariants.{TooLarge}
 use Rattle.tsplib_points.specs.Real.{Real}
 use Rattle.tsplib_points.specs.Nodes.{Node}
@@ -105,9 +104,9 @@ AreScaled-refused k i kept items points d e h is before ns z =
     let a = answered k i kept items ns None d e h is z in
     let large = is_none (is_large k n) (scaled k n) a.is in
     let parts : ns ≡ take i ns ++ n ∷ drop (i + 1) ns =
-        sym (take-append-drop i ns) ∙ ap (λ s. take i ns ++ s) (next_first ns i a.within) in
+    sym (take-append-drop i ns) ∙ ap (λ s. take i ns ++ s) (next_first ns i a.within) in
     let found : find (is_large k) ns ≡ Some n =
-        ap (find (is_large k)) parts ∙ rw (find-append (is_large k) (take i ns) (n ∷ drop (i + 1) ns), before.fine ns z, large) refl in
+    ap (find (is_large k)) parts ∙ rw (find-append (is_large k) (take i ns) (n ∷ drop (i + 1) ns), before.fine ns z, large) refl in
     let zipped : AllZip KeepsNode items ns = rw e z in
     let line : n.line ≡ (get_or items i d).line = sym (at_place KeepsNode items ns i d nowhere zipped h).line in
     ap (option_map (λ m. refused_at m.line TooLarge)) found ∙ ap (λ l. Some (refused_at l TooLarge)) line

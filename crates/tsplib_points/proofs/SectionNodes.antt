@@ -1,13 +1,12 @@
 -- The nodes of a file, line by line.
-use Rattle.std.proofs.Common.{◌≡◌, ◌≢◌, ℕ, Bool, true, false, not, ◌&&◌, ◌||◌, cond, List, [], ◌∷◌, ◌++◌, filter, filter_map, Option, Some, None, ◌⊎◌, inl, inr, refl, sym, ap, ◌∙◌, arith, rules}
-use Rattle.std.specs.List.{list_any, list_all, cons_option, before_first, after_first, slice_split}
-use Rattle.std.proofs.lemmas.Bool.{cases_Bool, or_parts, and_parts, true≢false, false≢true}
-use Rattle.std.proofs.lemmas.List.{append-nil}
+use Rattle.std.proofs.Common.{◌≡◌, ℕ, true, false, not, List, [], ◌∷◌, ◌++◌, filter, filter_map, None, refl, sym, ap, ◌∙◌}
+use Rattle.std.specs.List.{list_any, list_all, cons_option, before_first, after_first}
+use Rattle.std.proofs.lemmas.Bool.{and_parts}
 use Rattle.std.proofs.lemmas.List.Elements.{filter_map-append}
 use Rattle.std.proofs.lemmas.List.Splits.{slice_split-cons_yes}
 use Rattle.tsplib_points.specs.Lines.{Line, is_blank, is_empty, is_blank_line, words}
 use Rattle.tsplib_points.specs.Header.{is_end, is_section}
-use Rattle.tsplib_points.specs.Nodes.{Node, node_of, section_lines, nodes}
+use Rattle.tsplib_points.specs.Nodes.{node_of, section_lines, nodes}
 use Rattle.tsplib_points.proofs.FirstPlaces.{before_first-push, after_first-push, before_none, after_none, before_last, after_last, any-push}
 
 -- a blank line has no words

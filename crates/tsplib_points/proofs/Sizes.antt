@@ -1,10 +1,10 @@
 -- The size of a decimal in a unit that is not its own.
-use Rattle.std.proofs.Common.{◌≡◌, ℕ, zero, suc, ◌+◌, ◌-◌, ◌*◌, ◌/◌, ◌%◌, ◌^◌, ◌<◌, ◌≤◌, min, Bool, true, false, cond, ltb, Option, Some, None, ◌⊎◌, inl, inr, refl, sym, ap, ◌∙◌, arith, rules, ℤ, pos, ◌-ℤ◌, neg_ℤ, to_z, of_z, w64, FitsSigned}
+use Rattle.std.proofs.Common.{◌≡◌, ℕ, zero, suc, ◌+◌, ◌-◌, ◌*◌, ◌/◌, ◌^◌, ◌<◌, ◌≤◌, min, Bool, true, false, cond, ltb, Some, None, inl, inr, refl, sym, ap, ◌∙◌, arith, rules, ℤ, pos, ◌-ℤ◌, neg_ℤ, to_z, of_z, w64, FitsSigned}
 use Rattle.std.proofs.lemmas.Bool.{cases_lt, eqb-true, lt-ltb, le-ltb}
 use Rattle.std.proofs.lemmas.Int.{ints, to_z-of_z, to_z_pos}
 use Rattle.std.proofs.lemmas.Nat.{pow-add}
 use Rattle.std.proofs.lemmas.Nat.Gcd.{dvd_of_mod-eq-zero}
-use Rattle.std.proofs.Math.Nat.{mul-div_cancel, div-mul_cancel, mul-le-mul_left, le-mul_of_pos_right}
+use Rattle.std.proofs.Math.Nat.{mul-div_cancel, div-mul_cancel, le-mul_of_pos_right}
 use Rattle.tsplib_points.specs.Real.{Real, is_whole, size_times, times, signed}
 use Rattle.tsplib_points.specs.Kept.{Keeps}
 
@@ -27,10 +27,11 @@ size_times-more r k j whole =
     let back : n / m * m ≡ n = div-mul_cancel m (dvd_of_mod-eq-zero m (eqb-true _ _ whole)) in
     let power : 10 ^ (r.right + (k + j)) ≡ 10 ^ (r.right + k) * 10 ^ j = ap (λ z. 10 ^ z) (omega arith) ∙ pow-add 10 (r.right + k) j in
     let grown : r.digits * 10 ^ (r.right + (k + j)) ≡ n / m * 10 ^ j * m =
-        ap (λ z. r.digits * z) power ∙ regroup r.digits (10 ^ (r.right + k)) (10 ^ j) ∙ ap (λ z. z * 10 ^ j) (sym back) ∙ swap (n / m) m (10 ^ j) in
+    ap (λ z. r.digits * z) power ∙ regroup r.digits (10 ^ (r.right + k)) (10 ^ j) ∙ ap (λ z. z * 10 ^ j) (sym back) ∙ swap (n / m) m (10 ^ j) in
     ap (λ z. z / m) grown ∙ mul-div_cancel (n / m * 10 ^ j) (power_pos (r.places + r.left)) where
       regroup : (d p q : ℕ) → d * (p * q) ≡ d * p * q
       regroup d p q = omega arith
+
       swap : (q m t : ℕ) → q * m * t ≡ q * t * m
       swap q m t = omega arith
 
@@ -55,7 +56,7 @@ pub kept_tells : (negative : Bool) (own size k : ℕ) (r : Real) → Keeps negat
 kept_tells negative own size k r kept h =
     let d : own + (k - own) ≡ k = omega arith in
     let e : size_times k r ≡ size_times own r * 10 ^ (k - own) =
-        ap (λ z. size_times z r) (sym d) ∙ size_times-more r own (k - own) (kept.whole own (omega arith)) in
+    ap (λ z. size_times z r) (sym d) ∙ size_times-more r own (k - own) (kept.whole own (omega arith)) in
     rw (e, kept.size_is) (tells (size_times own r) (10 ^ (k - own)) (power_pos (k - own)))
 
 -- a coordinate that is too large

@@ -1,13 +1,13 @@
 -- The unit of a file, by what is kept of its nodes.
-use Rattle.std.proofs.Common.{◌≡◌, ℕ, zero, suc, ◌+◌, ◌<◌, ◌≤◌, max, Bool, true, false, ◌&&◌, cond, leb, List, [], ◌∷◌, ◌++◌, length, get_or, take, find, unwrap_or, All, ◌⊎◌, inl, inr, refl, sym, ap, ◌∙◌, arith}
-use Rattle.std.specs.List.{AllZip, list_all}
-use Rattle.std.proofs.lemmas.Bool.{cases_lt, le-leb, lt-leb, leb-true, and_parts}
+use Rattle.std.proofs.Common.{◌≡◌, ℕ, zero, suc, ◌+◌, ◌<◌, ◌≤◌, max, Bool, ◌&&◌, leb, List, [], ◌∷◌, length, get_or, take, find, unwrap_or, All, inl, inr, refl, sym, ap, ◌∙◌, arith}
+use Rattle.std.specs.List.{AllZip}
+use Rattle.std.proofs.lemmas.Bool.{cases_lt, le-leb, lt-leb}
 use Rattle.std.proofs.lemmas.Bool.Decides.{nat_tests}
 use Rattle.std.proofs.lemmas.List.{take_more}
 use Rattle.std.proofs.lemmas.List.Recursion.{max_push, max_bounds}
 use Rattle.tsplib_points.specs.declared.node.KeptNode.{KeptNode}
 use Rattle.tsplib_points.specs.Real.{Real, is_whole}
-use Rattle.tsplib_points.specs.Nodes.{Node, is_whole_node}
+use Rattle.tsplib_points.specs.Nodes.{Node}
 use Rattle.tsplib_points.specs.Kept.{Keeps}
 use Rattle.tsplib_points.specs.Gathering.{KeepsNode, IsWithinUnit}
 use Rattle.tsplib_points.specs.Refusals.{are_whole, unit}
@@ -80,7 +80,7 @@ pub unit_from : (kept : List KeptNode) (ns : List Node) → AllZip KeepsNode kep
 unfolding unit
 unit_from kept ns z =
     sym (ap (λ o. unwrap_or o 6) (find-same (are_whole ns) (leb (most_unit kept)) (are_whole_from kept ns z) powers)
-      ∙ least_from (most_unit kept) (most_unit-le kept ns z))
+    ∙ least_from (most_unit kept) (most_unit-le kept ns z))
 
 -- Every coordinate is whole in the unit of the file, which is at most 6.
 pub unit_within : (kept : List KeptNode) (ns : List Node) → AllZip KeepsNode kept ns → All (IsWithinUnit (unit ns)) kept

@@ -1,5 +1,5 @@
 -- The answer for a file of which no line fails, by what was gathered of its lines.
-use Rattle.std.proofs.Common.{◌≡◌, ℕ, ◌≤◌, Bool, true, false, List, length, map, find, Some, None, refl, sym, ap, ◌∙◌, All}
+use Rattle.std.proofs.Common.{◌≡◌, ℕ, ◌≤◌, true, false, List, length, map, find, Some, None, refl, sym, ap, ◌∙◌, All}
 use Rattle.std.specs.Option.{option_or, option_map}
 use Rattle.std.specs.List.{AllZip, list_all}
 use Rattle.std.proofs.lemmas.List.{length-map}
@@ -64,7 +64,7 @@ unit_at_most bytes found k h = rw h.least (unit_few found.nodes.items (nodes_of 
 
 rules_left : (bytes : List ℕ) (found : Gathered) (k : ℕ) → HasNodes bytes found k
     → refusal bytes ≡ option_or (option_map (λ n. refused_at n.line TooLarge) (find (is_large k) (nodes_of bytes)))
-        (points_refusal (points_code (map (scaled k) (nodes_of bytes))))
+    (points_refusal (points_code (map (scaled k) (nodes_of bytes))))
 rules_left bytes found k h =
     rw h.least (refusal-points bytes h.gathered.fine (sym h.gathered.section ∙ h.section) (sym (same_count bytes found h.gathered) ∙ h.count))
 

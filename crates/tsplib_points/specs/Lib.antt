@@ -8,4 +8,3 @@ pub mod Refusals
 pub mod Files
 pub mod Kept
 pub mod Gathering
-pub mod Plain

@@ -1,17 +1,14 @@
-//! The reader of point files.
-//! Today it takes plain files alone: one spelling of each list of points.
+//! The reader of point files: TSPLIB95 files of points in the plane, read to exact whole coordinates.
+//! What a file is, why it is refused and what it holds stand in `specs/`.
 #![tactic(auto)]
 
 mod decimal;
 mod file;
 mod gather;
-mod guess;
 mod node;
-mod plain;
 mod reader;
 mod reason;
 mod scaling;
-mod spelling;
 
 pub use file::{File, FileStop, Refusal};
 pub use reader::read_points;

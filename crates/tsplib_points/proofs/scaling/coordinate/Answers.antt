@@ -1,4 +1,4 @@
-use Rattle.std.proofs.Common.{◌≡◌, ◌*◌, ◌^◌, ◌-◌, ◌≤◌, Bool, sym, ap, ◌∙◌, arith}
+use Rattle.std.proofs.Common.{◌≡◌, ◌*◌, ◌^◌, ◌-◌, Bool, sym, ap, ◌∙◌}
 use Rattle.tsplib_points.specs.Real.{signed}
 use Rattle.tsplib_points.proofs.Sizes.{kept_tells, large_from, scaled_from, negative_cast, positive_cast}
 use Rattle.tsplib_points.proofs.scaling.coordinate.Goals as goal

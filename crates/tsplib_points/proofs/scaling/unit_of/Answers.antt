@@ -1,4 +1,4 @@
-use Rattle.std.proofs.Common.{◌∙◌, ap, arith}
+use Rattle.std.proofs.Common.{◌∙◌, ap}
 use Rattle.std.proofs.lemmas.List.{take_all}
 use Rattle.tsplib_points.proofs.Units.{most_unit, most_unit-more, unit_from}
 use Rattle.tsplib_points.proofs.scaling.unit_of.Goals as goal
