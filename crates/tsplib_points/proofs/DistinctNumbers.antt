@@ -13,12 +13,13 @@ use Rattle.tsplib_points.specs.declared.reason.Reason.{Reason}
 use Rattle.tsplib_points.specs.declared.reason.Reason.TheVariants.{NotWhole, RepeatedId}
 use Rattle.tsplib_points.specs.Reasons.{refused_at}
 use Rattle.tsplib_points.specs.Lines.{Line, is_blank_line}
-use Rattle.tsplib_points.specs.Header.{is_end, is_section}
+use Rattle.tsplib_points.specs.Header.{is_end, is_section, lines_to_end, section_lines}
 use Rattle.tsplib_points.specs.Real.{Real, size_times, times, signed}
-use Rattle.tsplib_points.specs.Nodes.{Node, node_of, section_lines, nodes, node_reason, is_whole_node, has_number}
+use Rattle.tsplib_points.specs.Nodes.{Node, node_of, nodes, node_reason, is_whole_node, has_number}
 use Rattle.tsplib_points.specs.Refusals.{line_reason, first_failing, scaled, is_large}
 use Rattle.tsplib_points.proofs.ScaledPoints.{nowhere}
-use Rattle.tsplib_points.proofs.SectionNodes.{node_of-blank, nodes-ended, nodes-end, nodes-header, nodes-section}
+use Rattle.tsplib_points.proofs.Growth.{nodes_ended, nodes_header, nodes_grow}
+use Rattle.tsplib_points.proofs.Steps.{blank_nothing}
 
 abbrev pub HaveOwnNumbers : List Node → Type 0
 HaveOwnNumbers ns = AllPairs (λ m n. m.number ≢ n.number) ns
@@ -41,15 +42,15 @@ next_line : (before : List Line) (l : Line) → line_reason before l ≡ None �
 unfolding line_reason
 next_line before l fine own =
     elim (cases_Bool (list_any is_end before)) [
-      | inl ended ↦ let P : List Node → Type 0 = HaveOwnNumbers in subst P (sym (nodes-ended before l ended)) own
+      | inl ended ↦ let P : List Node → Type 0 = HaveOwnNumbers in subst P (sym (nodes_ended before l (inl ended))) own
       | inr going ↦ elim (cases_Bool (is_end l)) [
-        | inl here ↦ let P : List Node → Type 0 = HaveOwnNumbers in subst P (sym (nodes-end before l going here)) own
+        | inl here ↦ let P : List Node → Type 0 = HaveOwnNumbers in subst P (sym (nodes_ended before l (inr here))) own
         | inr more ↦ elim (cases_Bool (list_any is_section before)) [
-          | inr header ↦ let P : List Node → Type 0 = HaveOwnNumbers in subst P (sym (nodes-header before l going more header)) own
+          | inr header ↦ let P : List Node → Type 0 = HaveOwnNumbers in subst P (sym (nodes_header before l going more header)) own
           | inl section ↦
               let P : List Node → Type 0 = HaveOwnNumbers in
-              subst P (sym (nodes-section before l going more section)) (elim (cases_Bool (is_blank_line l)) [
-                | inl blank ↦ rw (node_of-blank l blank, append-nil (nodes before)) own
+              subst P (sym (nodes_grow before l going more section)) (elim (cases_Bool (is_blank_line l)) [
+                | inl blank ↦ rw ((blank_nothing l.number l.text blank).node, append-nil (nodes before)) own
                 | inr some ↦ own_number (nodes before) (node_of l) (rw (some, going, section, more) at fine) own
               ])
         ]
@@ -69,7 +70,7 @@ all_lines before (l ∷ rest) fine own =
     subst P (append_assoc before (l ∷ []) rest) (all_lines (before ++ l ∷ []) rest parts.1 (next_line before l parts.0 own))
 
 no_lines : HaveOwnNumbers (nodes [])
-unfolding nodes section_lines
+unfolding nodes section_lines lines_to_end
 no_lines = λ i j d below within. absurd (omega arith)
 
 pub own_numbers : (ls : List Line) → first_failing [] ls ≡ None → HaveOwnNumbers (nodes ls)

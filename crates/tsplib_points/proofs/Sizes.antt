@@ -7,16 +7,7 @@ use Rattle.std.proofs.lemmas.Nat.Gcd.{dvd_of_mod-eq-zero}
 use Rattle.std.proofs.Math.Nat.{mul-div_cancel, div-mul_cancel, le-mul_of_pos_right}
 use Rattle.tsplib_points.specs.Real.{Real, is_whole, size_times, times, signed}
 use Rattle.tsplib_points.specs.Kept.{Keeps}
-
-power_pos : (k : ℕ) → 0 < 10 ^ k
-power_pos zero = omega arith
-power_pos (suc k) = let s : suc k ≡ k + 1 = omega arith in rw (s, pow-add 10 k 1) (omega (arith, power_pos k))
-
-power_le : (i j : ℕ) → i ≤ j → 10 ^ i ≤ 10 ^ j
-power_le i j h =
-    let d : i + (j - i) ≡ j = omega arith in
-    let e : 10 ^ j ≡ 10 ^ i * 10 ^ (j - i) = ap (λ k. 10 ^ k) (sym d) ∙ pow-add 10 i (j - i) in
-    rw e (le-mul_of_pos_right (10 ^ i) (power_pos (j - i)))
+use Rattle.tsplib_points.proofs.Tens.{ten_pos}
 
 -- ten times the power, ten times the size
 pub size_times-more : (r : Real) (k j : ℕ) → is_whole k r ≡ true → size_times (k + j) r ≡ size_times k r * 10 ^ j
@@ -28,7 +19,7 @@ size_times-more r k j whole =
     let power : 10 ^ (r.right + (k + j)) ≡ 10 ^ (r.right + k) * 10 ^ j = ap (λ z. 10 ^ z) (omega arith) ∙ pow-add 10 (r.right + k) j in
     let grown : r.digits * 10 ^ (r.right + (k + j)) ≡ n / m * 10 ^ j * m =
     ap (λ z. r.digits * z) power ∙ regroup r.digits (10 ^ (r.right + k)) (10 ^ j) ∙ ap (λ z. z * 10 ^ j) (sym back) ∙ swap (n / m) m (10 ^ j) in
-    ap (λ z. z / m) grown ∙ mul-div_cancel (n / m * 10 ^ j) (power_pos (r.places + r.left)) where
+    ap (λ z. z / m) grown ∙ mul-div_cancel (n / m * 10 ^ j) (ten_pos (r.places + r.left)) where
       regroup : (d p q : ℕ) → d * (p * q) ≡ d * p * q
       regroup d p q = omega arith
 
@@ -57,7 +48,7 @@ kept_tells negative own size k r kept h =
     let d : own + (k - own) ≡ k = omega arith in
     let e : size_times k r ≡ size_times own r * 10 ^ (k - own) =
     ap (λ z. size_times z r) (sym d) ∙ size_times-more r own (k - own) (kept.whole own (omega arith)) in
-    rw (e, kept.size_is) (tells (size_times own r) (10 ^ (k - own)) (power_pos (k - own)))
+    rw (e, kept.size_is) (tells (size_times own r) (10 ^ (k - own)) (ten_pos (k - own)))
 
 -- a coordinate that is too large
 pub large_from : (kept k : ℕ) (r : Real) → TellsSize kept (size_times k r) → 1000000000 < kept

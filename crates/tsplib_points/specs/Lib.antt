@@ -7,4 +7,7 @@ pub mod Nodes
 pub mod Refusals
 pub mod Files
 pub mod Kept
+pub mod Reads
+pub mod Told
 pub mod Gathering
+pub mod Passing

@@ -1,11 +1,11 @@
 -- Node lines.
 use Rattle.std.specs.Prelude.{ℕ, Bool, not, ◌&&◌, List, [], ◌∷◌, Option, Some, None, filter_map, ◌==◌, if◌then◌else◌}
-use Rattle.std.specs.List.{list_any, before_first, after_first}
+use Rattle.std.specs.List.{list_any}
 use Rattle.tsplib_points.specs.declared.reason.Reason.{Reason}
 use Rattle.tsplib_points.specs.declared.reason.Reason.TheVariants.{CoordLine, NotWhole, RepeatedId}
 use Rattle.tsplib_points.specs.Lines.{Line, words}
 use Rattle.tsplib_points.specs.Numbers.{small_number}
-use Rattle.tsplib_points.specs.Header.{is_end, is_section}
+use Rattle.tsplib_points.specs.Header.{section_lines}
 use Rattle.tsplib_points.specs.Real.{Real, real_of, is_whole}
 
 -- a node, with the number of its line
@@ -27,10 +27,6 @@ node_in line _ = None
 -- the node of a line, if it has the form of a node line
 unfoldable pub node_of : Line → Option Node
 node_of l = node_in l.number (words l.text)
-
--- the lines behind NODE_COORD_SECTION, up to EOF or the end
-unfoldable pub section_lines : List Line → List Line
-section_lines ls = after_first is_section (before_first is_end ls)
 
 -- the nodes of a file, in the order of its node lines
 unfoldable pub nodes : List Line → List Node

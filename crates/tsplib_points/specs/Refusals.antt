@@ -9,7 +9,7 @@ use Rattle.tsplib_points.specs.declared.reason.Reason.{Reason}
 use Rattle.tsplib_points.specs.declared.reason.Reason.TheVariants.{NoCoords, TooLarge, Count, TooMany, TooFew, Flat, AfterEnd}
 use Rattle.tsplib_points.specs.Reasons.{refused_at, refused}
 use Rattle.tsplib_points.specs.Lines.{Line, lines, is_blank_line}
-use Rattle.tsplib_points.specs.Header.{is_end, is_section, dimension, header_reason}
+use Rattle.tsplib_points.specs.Header.{is_end, is_section, is_dimension, parts_of, dimension, header_reason}
 use Rattle.tsplib_points.specs.Real.{size_times, times}
 use Rattle.tsplib_points.specs.Nodes.{Node, node_of, nodes, node_reason, is_whole_node}
 
@@ -19,7 +19,7 @@ unfoldable pub line_reason : List Line → Line → Option Reason
 line_reason before l =
     if is_blank_line l then None
     else if list_any is_end before then Some AfterEnd
-    else if not (list_any is_section before) then header_reason before l
+    else if not (list_any is_section before) then header_reason (list_any is_dimension before) (parts_of l.text)
     else if is_end l then None
     else node_reason (nodes before) (node_of l)
 
@@ -64,7 +64,7 @@ file_refusal ls =
     if not (list_any is_section ls) then Some (refused NoCoords)
     else if not (is_count (dimension ls) (length ns)) then Some (refused Count)
     else option_or (option_map (λ n. refused_at n.line TooLarge) (find (is_large k) ns))
-      (points_refusal (points_code (map (scaled k) ns)))
+    (points_refusal (points_code (map (scaled k) ns)))
 
 -- why bytes are no accepted file, if they are none
 unfoldable pub refusal : List ℕ → Option Refusal

@@ -2,11 +2,17 @@
 //! What a file is, why it is refused and what it holds stand in `specs/`.
 #![tactic(auto)]
 
+mod cuts;
 mod decimal;
+mod digits;
 mod file;
 mod gather;
+mod header;
+mod lines;
 mod node;
+mod numbers;
 mod reader;
+mod reals;
 mod reason;
 mod scaling;
 
