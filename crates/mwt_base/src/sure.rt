@@ -1,5 +1,5 @@
 // A source and a sink in memory, of which no call fails.
-ghost use Rattle.std.specs.Prelude.{◌≡◌, ℕ, ◌<◌, ◌≤◌, Some, drop, take, length, vec_len, vec_capacity, IfOk, List};
+ghost use Rattle.std.specs.Prelude.{◌≡◌, ℕ, ◌<◌, ◌≤◌, Some, drop, take, length, min, vec_len, vec_capacity, IfOk, List};
 ghost use Rattle.std.specs.Io.{WritesAtMost};
 ghost use Rattle.mwt_base.specs.Causes.{HasCause};
 ghost use Rattle.mwt_base.specs.Sure.{Collected, Collects, collected_bytes, nothing_collected};
@@ -54,8 +54,9 @@ impl Source for SureSource {
 }
 
 // Copies as much as there is, at most a chunk.
-fn give(rest: &[u8], chunk: usize, buf: &mut [u8]) -> usize
+pub(crate) fn give(rest: &[u8], chunk: usize, buf: &mut [u8]) -> usize
     requires { 0 < chunk }
+    ensures count { result ≡ min (min (length rest.now) chunk) (length buf.old) }
     ensures within { result ≤ length rest.now }
     ensures room { result ≤ length buf.new }
     ensures given { take result buf.new ≡ take result rest.now }

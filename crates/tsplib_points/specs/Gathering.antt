@@ -1,5 +1,5 @@
 -- What a pass over the lines of a file keeps.
-use Rattle.std.specs.Prelude.{◌≡◌, ℕ, List, [], None}
+use Rattle.std.specs.Prelude.{◌≡◌, ℕ, ◌≤◌, List, [], None}
 use Rattle.std.specs.List.{AllZip, list_any}
 use Rattle.tsplib_points.specs.declared.node.KeptNode.{KeptNode}
 use Rattle.tsplib_points.specs.declared.gather.Gathered.{Gathered}
@@ -23,3 +23,8 @@ pub record IsGathered (bytes : List ℕ) (found : Gathered) : Type 0 where
   pub section : found.has_section ≡ list_any is_section (lines bytes)
   pub told : found.dimension ≡ dimension (lines bytes)
   pub kept : AllZip KeepsNode found.nodes.items (nodes (lines bytes))
+
+-- what is kept of a node is whole in this unit
+pub record IsWithinUnit (unit : ℕ) (kept : KeptNode) : Type 0 where
+  pub x : kept.x.unit ≤ unit
+  pub y : kept.y.unit ≤ unit

@@ -78,7 +78,7 @@ header_reason has_dimension p =
     if is_end_mark p then None
     else if is_section_mark p then unless has_dimension Dimension
     else if is_dimension_entry p then
-      (if has_dimension then Some Header else unless (is_some (small_number p.value)) Dimension)
+    (if has_dimension then Some Header else unless (is_some (small_number p.value)) Dimension)
     else entry_reason p
 
 unfoldable pub is_end : Line → Bool

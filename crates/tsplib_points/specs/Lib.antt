@@ -11,4 +11,3 @@ pub mod Reads
 pub mod Told
 pub mod Gathering
 pub mod Passing
-pub mod Plain

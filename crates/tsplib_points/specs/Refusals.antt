@@ -64,7 +64,7 @@ file_refusal ls =
     if not (list_any is_section ls) then Some (refused NoCoords)
     else if not (is_count (dimension ls) (length ns)) then Some (refused Count)
     else option_or (option_map (λ n. refused_at n.line TooLarge) (find (is_large k) ns))
-      (points_refusal (points_code (map (scaled k) ns)))
+    (points_refusal (points_code (map (scaled k) ns)))
 
 -- why bytes are no accepted file, if they are none
 unfoldable pub refusal : List ℕ → Option Refusal
