@@ -1,5 +1,5 @@
 -- What the code of a list of points says.
-use Rattle.std.proofs.Common.{◌≡◌, ◌≢◌, ℕ, ◌≤◌, ◌<◌, ◌-◌, Bool, true, false, not, List, length, Option, Some, None, if◌then◌else◌, All, AllPairs, IsPermutation, refl, ap, sym, ◌∙◌, arith}
+use Rattle.std.proofs.Common.{◌≡◌, ◌≢◌, ℕ, ◌≤◌, ◌<◌, ◌-◌, Bool, true, false, not, List, length, Option, Some, None, ◌⊎◌, inl, inr, if◌then◌else◌, All, AllPairs, IsPermutation, refl, ap, sym, ◌∙◌, arith}
 use Rattle.std.specs.List.{list_all}
 use Rattle.std.proofs.lemmas.Bool.{ltb-false, le-ltb, lt-ltb}
 use Rattle.std.proofs.lemmas.List.Sorted.{length_permutation, All-permutation}
@@ -132,3 +132,15 @@ IsMadeFrom-sorted list sorted h moved up =
       };
       merged = omega (arith, same, length-firsts-le list);
     }
+
+late_code_of : (c d e : Bool) (code : ℕ) → code_of true true c d e ≡ Some code → (code ≡ 2) ⊎ (code ≡ 1) ⊎ (code ≡ 3)
+late_code_of true d e code h = inl cc
+late_code_of false true e code h = inr (inl cc)
+late_code_of false false true code h = inr (inr cc)
+late_code_of false false false code h = absurd (cc)
+
+-- the rules that a list in range with distinct ids can break
+pub points_code-late : (list : List Point) → list_all is_in_range list ≡ true → has_distinct_ids list ≡ true → (code : ℕ) → points_code list ≡ Some code
+    → (code ≡ 2) ⊎ (code ≡ 1) ⊎ (code ≡ 3)
+unfolding points_code
+points_code-late list ranged apart code h = late_code_of _ _ _ code (rw (ranged, apart) at h)

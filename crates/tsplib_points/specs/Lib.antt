@@ -1,1 +1,13 @@
-pub mod Plain
+pub mod Lines
+pub mod Numbers
+pub mod Reasons
+pub mod Header
+pub mod Real
+pub mod Nodes
+pub mod Refusals
+pub mod Files
+pub mod Kept
+pub mod Reads
+pub mod Told
+pub mod Gathering
+pub mod Passing

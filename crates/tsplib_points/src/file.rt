@@ -1,6 +1,8 @@
 // What a point file holds, and why it is refused.
+ghost use Rattle.std.specs.Prelude.{◌≡◌};
 
 use exact_predicates::Points;
+use std::alloc::{AllocError, AllocFailed};
 
 /// The points of a file. Coordinates are in units of 10^-`unit`; `merged` nodes were dropped since
 /// an earlier one has their coordinates.
@@ -24,4 +26,24 @@ pub struct Refusal {
 pub enum FileStop {
     Refused(Refusal),
     NoMemory,
+}
+
+impl From<AllocError> for FileStop {
+    ghost use Rattle.tsplib_points.specs.declared.file.FileStop.TheVariants.{NoMemory};
+
+    ghost from_gives = { λ _ stop. stop ≡ NoMemory };
+
+    fn from(_: AllocError) -> Self {
+        FileStop::NoMemory
+    }
+}
+
+impl<T: Drop> From<AllocFailed<T>> for FileStop {
+    ghost use Rattle.tsplib_points.specs.declared.file.FileStop.TheVariants.{NoMemory};
+
+    ghost from_gives = { λ _ stop. stop ≡ NoMemory };
+
+    fn from(_: AllocFailed<T>) -> Self {
+        FileStop::NoMemory
+    }
 }

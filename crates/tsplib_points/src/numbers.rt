@@ -1,0 +1,39 @@
+// Whole numbers.
+ghost use Rattle.std.specs.Prelude.{◌≡◌, ◌^◌, ◌≤◌, true, false, min, IfSome, MatchOption};
+ghost use Rattle.tsplib_points.specs.Numbers.{is_digit, is_digits, number, small_number};
+
+pub fn is_digit(b: u8) -> bool
+    ensures { result ≡ is_digit b }
+{
+    b'0' <= b && b <= b'9'
+}
+
+/// The number of one or more digits, or the cap where it is above that.
+pub fn number_up_to(text: &[u8], cap: u64) -> Option<u64>
+    requires { cap ≤ 2 ^ 40 }
+    ensures digits { MatchOption result (is_digits text.now ≡ false) (λ _. is_digits text.now ≡ true) }
+    ensures value { IfSome result (λ n. n ≡ min (number text.now) cap) }
+{
+    if text.is_empty() {
+        return None;
+    }
+    let mut n: u64 = 0;
+    for b in text {
+        if !is_digit(*b) {
+            return None;
+        }
+        n = (10 * n + u64::from(*b - b'0')).min(cap);
+    }
+    Some(n)
+}
+
+/// A number below 2^32, written as one or more digits.
+#[tactic(auto, unfolding(crate::specs::Numbers::small_number))]
+pub fn small_number(text: &[u8]) -> Option<u32>
+    ensures { result ≡ small_number text.now }
+{
+    match number_up_to(text, 1 << 32) {
+        Some(n) if n < 1 << 32 => Some(n as u32),
+        _ => None,
+    }
+}
