@@ -5,6 +5,9 @@
 //! the place of the list behind the queries: no contract speaks of how a grid finds its answers.
 #![tactic(auto)]
 
+mod direction;
 mod grid;
+mod sight;
 
+pub use direction::by_direction;
 pub use grid::Grid;
