@@ -1,5 +1,4 @@
 use Rattle.std.proofs.Common.{◌≡◌, map, rules, of_calls}
-use Rattle.std.proofs.lemmas.Fn.{always_returns_same}
 use Rattle.std.proofs.lemmas.List.Sorted.{answers_always}
 use Rattle.point_grid.specs.declared.sight.Sight.{Sight}
 use Rattle.point_grid.proofs.Sights.{is_before, is_before-order, AreByDirection-sorted}

@@ -1,4 +1,4 @@
-use Rattle.std.proofs.Common.{◌≡◌, nat_cmp, int_cmp, ap, ◌∙◌}
+use Rattle.std.proofs.Common.{ap, ◌∙◌}
 use Rattle.std.specs.Ordering.{ordering_then}
 use Rattle.point_grid.proofs.Sights.{kept}
 use Rattle.point_grid.proofs.direction.compare.Goals as goal

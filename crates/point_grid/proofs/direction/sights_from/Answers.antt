@@ -1,4 +1,4 @@
-use Rattle.std.proofs.Common.{arith, sym, ◌∙◌}
+use Rattle.std.proofs.Common.{arith, sym}
 use Rattle.point_grid.proofs.Sights.{IsSight-push}
 use Rattle.point_grid.proofs.direction.sights_from.Goals as goal
 

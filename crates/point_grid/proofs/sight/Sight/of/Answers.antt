@@ -1,4 +1,4 @@
-use Rattle.std.proofs.Common.{◌≡◌, pos, ⊎_elim, arith}
+use Rattle.std.proofs.Common.{⊎_elim, arith}
 use Rattle.std.proofs.lemmas.Int.{ints}
 use Rattle.exact_predicates.proofs.Gaps.{gap_x, gap_y, width_le, height_le}
 use Rattle.exact_predicates.proofs.HalfPlane.{forward_from, forward_x}
