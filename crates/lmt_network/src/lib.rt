@@ -1,5 +1,7 @@
 //! The network of candidate edges and empty triangles, and the plain elimination that leaves the
-//! live edges.
+//! live edges. The definitions of support, closed list and live list stand in `specs/`.
 #![tactic(auto)]
 
-ghost use Rattle.lmt_network.specs.Network.{NetworkParts};
+mod flags;
+
+pub use flags::Flags;
