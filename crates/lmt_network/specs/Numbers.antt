@@ -33,11 +33,15 @@ pub record IsMinimalPair (n : NetworkParts) (e l r : ℕ) : Type 0 where
   pub right_is : HasCorners (tri_at n r) (edge_at n e).b (edge_at n e).a b
   pub minimal : IsMinimalBetween n.points (edge_at n e).a (edge_at n e).b a b
 
+-- f is the number of the edge with the ends u and v
+abbrev pub IsNumberOf : NetworkParts → ℕ → ℕ → ℕ → Type 0
+IsNumberOf n u v f = (f < length n.edges) × Joins (edge_at n f) u v
+
 -- the edge f is a side of the triangle t
 abbrev pub IsSideOf : NetworkParts → ℕ → ℕ → Type 0
 IsSideOf n t f =
-    (f < length n.edges) × (Joins (edge_at n f) (tri_at n t).a (tri_at n t).b
-    ⊎ (Joins (edge_at n f) (tri_at n t).b (tri_at n t).c ⊎ Joins (edge_at n f) (tri_at n t).c (tri_at n t).a))
+    IsNumberOf n (tri_at n t).a (tri_at n t).b f
+    ⊎ (IsNumberOf n (tri_at n t).b (tri_at n t).c f ⊎ IsNumberOf n (tri_at n t).c (tri_at n t).a f)
 
 -- the edge f is a side of one of the triangles l and r, and is not e
 abbrev pub IsOtherSide : NetworkParts → ℕ → ℕ → ℕ → ℕ → Type 0
@@ -49,6 +53,12 @@ pub record IsSupported (n : NetworkParts) (es : List ℕ) (e : ℕ) : Type 0 whe
   pub r : ℕ
   pub pair : IsMinimalPair n e l r
   pub others : (f : ℕ) → IsOtherSide n e l r f → Contains es f
+
+-- the edge e has with l on its left a locally minimal pair whose right triangle has all sides among the edges es
+pub record IsSupportedWith (n : NetworkParts) (es : List ℕ) (e l : ℕ) : Type 0 where
+  pub r : ℕ
+  pub pair : IsMinimalPair n e l r
+  pub sides : (f : ℕ) → IsSideOf n r f → Contains es f
 
 -- the edges es are closed: each is an edge of the hull or has a support among them
 abbrev pub AreClosed : NetworkParts → List ℕ → Type 0

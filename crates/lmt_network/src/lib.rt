@@ -3,5 +3,12 @@
 #![tactic(auto)]
 
 mod flags;
+mod flip_laws;
+mod network;
+mod settle;
+mod tables;
 
 pub use flags::Flags;
+pub use flip_laws::flip_minimal_laws;
+pub use network::Network;
+pub use settle::plain_settle;
