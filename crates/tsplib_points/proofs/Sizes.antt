@@ -1,5 +1,5 @@
 -- The size of a decimal in a unit that is not its own.
-use Rattle.std.proofs.Common.{◌≡◌, ℕ, zero, suc, ◌+◌, ◌-◌, ◌*◌, ◌/◌, ◌^◌, ◌<◌, ◌≤◌, min, Bool, true, false, cond, ltb, Some, None, inl, inr, refl, sym, ap, ◌∙◌, arith, rules, ℤ, pos, ◌-ℤ◌, neg_ℤ, to_z, of_z, w64, FitsSigned}
+use Rattle.std.proofs.Common.{◌≡◌, ℕ, ◌+◌, ◌-◌, ◌*◌, ◌/◌, ◌^◌, ◌<◌, ◌≤◌, min, Bool, true, false, cond, ltb, Some, None, inl, inr, refl, sym, ap, ◌∙◌, arith, rules, ℤ, pos, ◌-ℤ◌, neg_ℤ, to_z, of_z, w64, FitsSigned}
 use Rattle.std.proofs.lemmas.Bool.{cases_lt, eqb-true, lt-ltb, le-ltb}
 use Rattle.std.proofs.lemmas.Int.{ints, to_z-of_z, to_z_pos}
 use Rattle.std.proofs.lemmas.Nat.{pow-add}
