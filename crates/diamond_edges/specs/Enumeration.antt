@@ -4,12 +4,7 @@ use Rattle.exact_predicates.specs.declared.diamond.Diamond.{Diamond}
 use Rattle.exact_predicates.specs.declared.edge.Edge.{Edge}
 use Rattle.exact_predicates.specs.declared.point.Point.{Point}
 use Rattle.exact_predicates.specs.Candidates.{EdgePrecedes, IsCandidate}
-use Rattle.exact_predicates.specs.Plane.{IsBetween}
-use Rattle.exact_predicates.specs.PointSet.{point_at}
-
--- no point is between the points a and b
-abbrev pub Sees : List Point → ℕ → ℕ → Type 0
-Sees ps a b = (r : ℕ) → r < length ps → ¬ IsBetween (point_at ps a) (point_at ps b) (point_at ps r)
+use Rattle.point_grid.specs.Directions.{Sees}
 
 -- a mark for each point: which of those after a it sees
 pub record MarksSeen (ps : List Point) (a : ℕ) (marks : List Bool) : Type 0 where

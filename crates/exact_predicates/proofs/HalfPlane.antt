@@ -5,7 +5,7 @@ use Rattle.std.proofs.lemmas.Int.{ints, by_lt_z}
 use Rattle.std.proofs.Math.IntN.{zero-*ℤ, *ℤ-zero}
 use Rattle.exact_predicates.specs.declared.point.Point.{Point}
 use Rattle.exact_predicates.specs.Plane.{orient, Precedes}
-use Rattle.exact_predicates.proofs.IntSigns.{mul-nonneg, mul-pos, nonneg-from-mul}
+use Rattle.exact_predicates.proofs.IntSigns.{mul-nonneg, mul-pos, nonneg-from-mul, pos-from-mul}
 use Rattle.exact_predicates.proofs.Ring.{var, num, plus, less, times, ring}
 use Rattle.exact_predicates.proofs.Orientation.{coordinates, turn}
 
@@ -119,3 +119,35 @@ pub turn_strict_last : (o a b c : Point) → Precedes o a → Precedes o b → P
 unfolding orient
 turn_strict_last o a b c ha hb hc ab bc =
     cross_strict_last _ _ _ _ _ _ (forward_from o a ha) (forward_from o b hb) (forward_from o c hc) ab bc
+
+-- the turns between four vectors
+cross_four : (ax ay bx by cx cy dx dy : ℤ) → cross ax ay cx cy *ℤ cross bx by dx dy ≡ (cross ax ay bx by *ℤ cross cx cy dx dy) +ℤ (cross ax ay dx dy *ℤ cross bx by cx cy)
+cross_four ax ay bx by cx cy dx dy =
+    ring (ax ∷ ay ∷ bx ∷ by ∷ cx ∷ cy ∷ dx ∷ dy ∷ [])
+    (times (less (times (var 0) (var 5)) (times (var 1) (var 4))) (less (times (var 2) (var 7)) (times (var 3) (var 6))))
+    (plus
+    (times (less (times (var 0) (var 3)) (times (var 1) (var 2))) (less (times (var 4) (var 7)) (times (var 5) (var 6))))
+    (times (less (times (var 0) (var 7)) (times (var 1) (var 6))) (less (times (var 2) (var 5)) (times (var 3) (var 4)))))
+    (omega arith)
+
+-- the turn at the second of three points
+orient_at_second : (a b c : Point) → orient a b c ≡ cross (b.x -ℤ a.x) (b.y -ℤ a.y) (c.x -ℤ b.x) (c.y -ℤ b.y)
+unfolding orient
+orient_at_second a b c =
+    ring (coordinates (a ∷ b ∷ c ∷ [])) (turn 0 2 4)
+    (less (times (less (var 2) (var 0)) (less (var 5) (var 3))) (times (less (var 3) (var 1)) (less (var 4) (var 2))))
+    (omega arith)
+
+-- seen from b, the points to the left of the line ab lie in a half-plane
+pub left_turn_strict : (a b x y z : Point) → pos 0 <ℤ orient a b x → pos 0 <ℤ orient a b y → pos 0 <ℤ orient a b z
+    → pos 0 ≤ℤ orient b x y → pos 0 <ℤ orient b y z → pos 0 <ℤ orient b x z
+unfolding orient
+left_turn_strict a b x y z =
+    rw (orient_at_second a b x, orient_at_second a b y, orient_at_second a b z)
+    (λ hx hy hz xy yz.
+    let ux = b.x -ℤ a.x in
+    let uy = b.y -ℤ a.y in
+    let m = mul-pos (cross ux uy (x.x -ℤ b.x) (x.y -ℤ b.y)) (cross (y.x -ℤ b.x) (y.y -ℤ b.y) (z.x -ℤ b.x) (z.y -ℤ b.y)) hx yz in
+    let n = mul-nonneg (cross ux uy (z.x -ℤ b.x) (z.y -ℤ b.y)) (cross (x.x -ℤ b.x) (x.y -ℤ b.y) (y.x -ℤ b.x) (y.y -ℤ b.y)) (omega (arith, ints)) xy in
+    pos-from-mul (cross ux uy (y.x -ℤ b.x) (y.y -ℤ b.y)) (cross (x.x -ℤ b.x) (x.y -ℤ b.y) (z.x -ℤ b.x) (z.y -ℤ b.y)) hy
+    (rw (cross_four ux uy (x.x -ℤ b.x) (x.y -ℤ b.y) (y.x -ℤ b.x) (y.y -ℤ b.y) (z.x -ℤ b.x) (z.y -ℤ b.y)) (omega (arith, ints))))

@@ -3,9 +3,13 @@ use Rattle.std.specs.Prelude.{◌≡◌, ◌⊎◌, ℕ, ◌+◌, ◌<◌, List,
 use Rattle.std.specs.declared.cmp.Ordering.{Ordering}
 use Rattle.std.specs.Ordering.{int_cmp, nat_cmp, ordering_then}
 use Rattle.exact_predicates.specs.declared.point.Point.{Point}
-use Rattle.exact_predicates.specs.Plane.{orient}
+use Rattle.exact_predicates.specs.Plane.{orient, IsBetween}
 use Rattle.exact_predicates.specs.PointSet.{point_at}
 use Rattle.point_grid.specs.declared.sight.Sight.{Sight}
+
+-- no point is between the points a and b
+abbrev pub Sees : List Point → ℕ → ℕ → Type 0
+Sees ps a b = (r : ℕ) → r < length ps → ¬ IsBetween (point_at ps a) (point_at ps b) (point_at ps r)
 
 -- seen from a, going round to the left, c comes after b: it lies further to the left, or on the same ray and further away
 abbrev pub Follows : List Point → ℕ → ℕ → ℕ → Type 0

@@ -10,5 +10,5 @@ mod direction;
 mod grid;
 mod sight;
 
-pub use direction::by_direction;
+pub use direction::{by_direction, is_first_on_ray, is_left};
 pub use grid::Grid;

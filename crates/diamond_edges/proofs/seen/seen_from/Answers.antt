@@ -8,7 +8,7 @@ loop-k-preserved c =
     let here : c.index.result.now ≡ slice_index c.in_ok-order.order.items c.loop-k.k = c.index.ensures ∙ get_or_default _ c.loop-k.k _ 0 (omega arith) in
     rw here
     (AreMarked-more _ _ _ c.len-count.ensures.valid c.requires c.in_ok-order.ensures _ c.loop-k.k _ c.loop-k.invariant (omega arith)
-    (rw c.deref.ensures.value at c.is_seen.ensures))
+    (rw c.deref.ensures.value at c.is_first_on_ray.ensures))
 
 pub returns : goal.returns
 returns c = MarksSeen-all _ _ _ c.len-count.ensures.valid c.requires c.in_ok-order.ensures _ c.loop-k.k (omega arith) c.loop-k.invariant

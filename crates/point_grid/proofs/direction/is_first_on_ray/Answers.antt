@@ -1,7 +1,7 @@
 use Rattle.std.proofs.Common.{◌-◌, refl, inl, inr, ⊎_elim, arith}
 use Rattle.std.proofs.lemmas.Bool.{cases_Bool}
-use Rattle.diamond_edges.proofs.Marks.{first_on_ray, not_first}
-use Rattle.diamond_edges.proofs.seen.is_seen.Goals as goal
+use Rattle.point_grid.proofs.Rays.{first_on_ray, not_first}
+use Rattle.point_grid.proofs.direction.is_first_on_ray.Goals as goal
 
 pub returns-then-k-eq0 : goal.returns-then-k-eq0
 returns-then-k-eq0 c = (λ _. first_on_ray _ _ _ c.requires.points c.requires.a_in c.requires.order c.args.k c.requires.k_in (inl c.if-k-eq0.true), λ _. refl)
