@@ -1,3 +1,4 @@
 pub mod Emptiness
 pub mod Ends
+pub mod Fans
 pub mod Lists

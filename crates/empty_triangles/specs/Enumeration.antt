@@ -1,8 +1,10 @@
 -- The empty triangles over a list of edges, as far as they are enumerated.
-use Rattle.std.specs.Prelude.{◌≡◌, ◌⊎◌, ℕ, ◌<◌, ◌≤◌, ◌==◌, nat_lt, Bool, ◌&&◌, ◌||◌, List, length, slice_index, slice_index_or, All, AllPairs, Contains}
+use Rattle.std.specs.Prelude.{◌≡◌, ◌⊎◌, ℕ, ◌<◌, ◌≤◌, ◌==◌, nat_lt, Bool, ◌&&◌, ◌||◌, List, length, slice_index, slice_index_or, All, AllPairs, Contains, pos, ◌<ℤ◌}
 use Rattle.exact_predicates.specs.declared.edge.Edge.{Edge}
 use Rattle.exact_predicates.specs.declared.point.Point.{Point}
 use Rattle.exact_predicates.specs.declared.tri.Tri.{Tri}
+use Rattle.exact_predicates.specs.Plane.{orient, IsInClosedTriangle}
+use Rattle.exact_predicates.specs.PointSet.{point_at}
 use Rattle.exact_predicates.specs.Candidates.{TriPrecedes, HasEdge, IsEmptyOver}
 
 -- e comes before the edge with the ends a and b
@@ -46,3 +48,15 @@ pub record AreTrianglesWith (ps : List Point) (es : List Edge) (P : Tri → Type
   pub are : All P ts
   pub each : All (IsEmptyOver ps es) ts
   pub all : (t : Tri) → P t → IsEmptyOver ps es t → Contains ts t
+
+-- a, b and c turn to the left, and no other point lies in their triangle or on its rim
+pub record IsBare (ps : List Point) (a b c : ℕ) : Type 0 where
+  pub after : a < c
+  pub c_in : c < length ps
+  pub turns_left : pos 0 <ℤ orient (point_at ps a) (point_at ps b) (point_at ps c)
+  pub bare : (r : ℕ) → r < length ps → IsInClosedTriangle (point_at ps a) (point_at ps b) (point_at ps c) (point_at ps r) → (r ≡ a) ⊎ ((r ≡ b) ⊎ (r ≡ c))
+
+-- the third corners of the empty triangles with the corners a and b, in this turn
+pub record AreThirds (ps : List Point) (a b : ℕ) (cs : List ℕ) : Type 0 where
+  pub each : All (IsBare ps a b) cs
+  pub all : (c : ℕ) → IsBare ps a b c → Contains cs c

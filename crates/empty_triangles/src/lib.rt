@@ -2,6 +2,7 @@
 #![tactic(auto)]
 
 mod edges;
+mod fan;
 mod rows;
 mod stop;
 mod test;
