@@ -1,6 +1,6 @@
 -- Locally minimal pairs, by the points of their quadrilateral.
-use Rattle.std.proofs.Common.{◌≡◌, ◌⊎◌, ◌↔◌, ℕ, ◌<◌, ◌≤◌, Bool, true, false, List, length, IsTrue, sym, ◌∙◌, subst, ⊎_elim, inl, inr, arith, pos, ◌<ℤ◌}
-use Rattle.std.proofs.lemmas.Bool.{false≢true}
+use Rattle.std.proofs.Common.{◌≡◌, ◌⊎◌, ◌↔◌, ℕ, ◌<◌, ◌≤◌, Bool, List, length, IsTrue, sym, ◌∙◌, subst, ⊎_elim, inl, inr, arith, pos, ◌<ℤ◌, not, ap}
+use Rattle.std.proofs.lemmas.Bool.{false≢true, cases_Bool}
 use Rattle.exact_predicates.specs.declared.edge.Edge.{Edge}
 use Rattle.exact_predicates.specs.declared.point.Point.{Point}
 use Rattle.exact_predicates.specs.declared.tri.Tri.{Tri}
@@ -91,20 +91,21 @@ pub record HasPoints (ps : List Point) (u v a b : ℕ) (p q x y : Point) : Type 
   pub x_is : x ≡ point_at ps a
   pub y_is : y ≡ point_at ps b
 
--- where the first test fails the pair is minimal
-pub unconvex-minimal : (n : NetworkParts) (e l r : ℕ) (edge : Edge) (left right : Tri) (a b : ℕ) (p q x y : Point) (convex : Bool) → IsPairOf n e l r edge left right a b
-    → HasPoints n.points edge.a edge.b a b p q x y → (IsTrue convex ↔ Crosses p q x y) → convex ≡ false → IsMinimalPair n e l r
-unconvex-minimal n e l r edge left right a b p q x y convex pair at h flat =
-    (pair-is n e l r edge left right a b pair).0
-    (same-points at.p_is at.q_is at.x_is at.y_is (inl (λ crosses. absurd (false≢true (sym flat ∙ h.1 crosses)))))
+-- where the other diagonal is not shorter the pair is minimal
+pub short-minimal : (n : NetworkParts) (e l r : ℕ) (edge : Edge) (left right : Tri) (a b : ℕ) (p q x y : Point) → IsPairOf n e l r edge left right a b
+    → HasPoints n.points edge.a edge.b a b p q x y → d2 p q ≤ d2 x y → IsMinimalPair n e l r
+short-minimal n e l r edge left right a b p q x y pair at low =
+    (pair-is n e l r edge left right a b pair).0 (same-points at.p_is at.q_is at.x_is at.y_is (inr low))
 
--- else the second one tells
-pub convex-minimal : (n : NetworkParts) (e l r : ℕ) (edge : Edge) (left right : Tri) (a b : ℕ) (p q x y : Point) (convex : Bool) → IsPairOf n e l r edge left right a b
-    → HasPoints n.points edge.a edge.b a b p q x y → (IsTrue convex ↔ Crosses p q x y) → convex ≡ true → (d2 p q ≤ d2 x y) ↔ IsMinimalPair n e l r
-convex-minimal n e l r edge left right a b p q x y convex pair at h bent =
+-- else the test of convexity tells
+pub long-minimal : (n : NetworkParts) (e l r : ℕ) (edge : Edge) (left right : Tri) (a b : ℕ) (p q x y : Point) (convex : Bool) → IsPairOf n e l r edge left right a b
+    → HasPoints n.points edge.a edge.b a b p q x y → (IsTrue convex ↔ Crosses p q x y) → d2 x y < d2 p q → IsTrue (not convex) ↔ IsMinimalPair n e l r
+long-minimal n e l r edge left right a b p q x y convex pair at h long =
     let is = pair-is n e l r edge left right a b pair in (
-      λ low. is.0 (same-points at.p_is at.q_is at.x_is at.y_is (inr low)),
-      λ minimal. ⊎_elim (λ none. absurd (none (h.0 bent))) (λ low. low)
+      λ flat. is.0 (same-points at.p_is at.q_is at.x_is at.y_is (inl (λ crosses. absurd (false≢true (ap not (sym (h.1 crosses)) ∙ flat))))),
+      λ minimal. ⊎_elim
+          (λ none. ⊎_elim (λ bent. absurd (none (h.0 bent))) (λ flat. ap not flat) (cases_Bool convex))
+          (λ low. absurd (omega (arith, low, long)))
           (same-points (sym at.p_is) (sym at.q_is) (sym at.x_is) (sym at.y_is) (is.1 minimal)),
     )
 

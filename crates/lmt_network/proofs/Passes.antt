@@ -1,5 +1,5 @@
 -- A pass over the edges that drops those without a support.
-use Rattle.std.proofs.Common.{◌≡◌, ◌≢◌, ◌⊎◌, ℕ, ◌+◌, ◌<◌, ◌≤◌, Bool, true, false, cond, List, length, get_or, set, slice_index_or, All, Contains, count_by, refl, ap, sym, ◌∙◌, subst, arith, below_more}
+use Rattle.std.proofs.Common.{◌≡◌, ◌≢◌, ◌⊎◌, ℕ, ◌+◌, ◌-◌, ◌<◌, ◌≤◌, Bool, true, false, cond, List, length, get_or, set, slice_index_or, All, Contains, count_by, refl, ap, sym, ◌∙◌, subst, arith, below_more}
 use Rattle.std.proofs.lemmas.Bool.{false≢true}
 use Rattle.std.proofs.lemmas.List.{length-set, get_or-set_other}
 use Rattle.std.proofs.lemmas.List.Elements.{All-contains}
@@ -14,29 +14,30 @@ use Rattle.lmt_network.proofs.Picked.{all-from-members, live-from_flag, flag-fro
 abbrev pub NoneLost : NetworkParts → List Bool → Type 0
 NoneLost n flags = (es : List ℕ) → AreClosed n es → All (Contains (live_numbers flags)) es
 
--- The pass has come to the edge i. Where none was dropped, each live edge so far is a hull edge or has a support.
-pub record IsPass (n : NetworkParts) (before flags : List Bool) (i : ℕ) (dropped : Bool) : Type 0 where
+-- the k-th of count numbers, upwards or downwards
+abbrev pub in_turn : ℕ → ℕ → Bool → ℕ
+in_turn count k downwards = cond downwards (count - 1 - k) k
+
+-- The pass has come to the place i. Where none was dropped, each live edge so far is a hull edge or has a support.
+pub record IsPass (n : NetworkParts) (before flags : List Bool) (downwards : Bool) (i : ℕ) (dropped : Bool) : Type 0 where
   pub one_each : length flags ≡ length n.edges
   pub none_lost : NoneLost n flags
   pub fewer : dropped ≡ true → count_by (λ live. live) flags < count_by (λ live. live) before
   pub same : dropped ≡ false → flags ≡ before
-  pub kept : dropped ≡ false → (e : ℕ) → e < i → slice_index_or flags e false ≡ true → IsHullNumber n e ⊎ IsSupported n (live_numbers flags) e
-
--- at the start
-pub pass-start : (n : NetworkParts) (flags : List Bool) → length flags ≡ length n.edges → NoneLost n flags → IsPass n flags flags 0 false
-pass-start n flags one_each none_lost =
-    record { one_each = one_each; none_lost = none_lost; fewer = λ h. absurd (false≢true h); same = λ _. refl; kept = λ _ e e_in. absurd (omega arith) }
+  pub kept : dropped ≡ false → (k : ℕ) → k < i → slice_index_or flags (in_turn (length n.edges) k downwards) false ≡ true
+      → IsHullNumber n (in_turn (length n.edges) k downwards) ⊎ IsSupported n (live_numbers flags) (in_turn (length n.edges) k downwards)
 
 -- an edge that stays
-pub pass-keeps : (n : NetworkParts) (before flags : List Bool) (i : ℕ) (dropped : Bool) → IsPass n before flags i dropped
-    → (slice_index_or flags i false ≡ true → IsHullNumber n i ⊎ IsSupported n (live_numbers flags) i) → IsPass n before flags (i + 1) dropped
-pass-keeps n before flags i dropped p here =
+pub pass-keeps : (n : NetworkParts) (before flags : List Bool) (downwards : Bool) (i e : ℕ) (dropped : Bool) → IsPass n before flags downwards i dropped → e ≡ in_turn (length n.edges) i downwards
+    → (slice_index_or flags e false ≡ true → IsHullNumber n e ⊎ IsSupported n (live_numbers flags) e) → IsPass n before flags downwards (i + 1) dropped
+pass-keeps n before flags downwards i e dropped p e_is here =
+    let P : ℕ → Type 0 = λ x. slice_index_or flags x false ≡ true → IsHullNumber n x ⊎ IsSupported n (live_numbers flags) x in
     record {
       one_each = p.one_each;
       none_lost = p.none_lost;
       fewer = p.fewer;
       same = p.same;
-      kept = λ none. below_more (λ e. slice_index_or flags e false ≡ true → IsHullNumber n e ⊎ IsSupported n (live_numbers flags) e) i (p.kept none) here;
+      kept = λ none. below_more (λ k. P (in_turn (length n.edges) k downwards)) i (p.kept none) (subst P e_is here);
     }
 
 -- how many are live without one that was
@@ -55,27 +56,36 @@ none-lost-dropped n flags e none dead es closed =
     live-from_flag (set flags e false) f (get_or-set_other flags e f false false away ∙ flag))
 
 -- an edge that goes
-pub pass-drops : (n : NetworkParts) (before flags : List Bool) (i : ℕ) (dropped : Bool) → IsPass n before flags i dropped
-    → slice_index_or flags i false ≡ true → ¬ IsHullNumber n i → ¬ IsSupported n (live_numbers flags) i → IsPass n before (set flags i false) (i + 1) true
-pass-drops n before flags i dropped p live inner unsupported =
+pub pass-drops : (n : NetworkParts) (before flags : List Bool) (downwards : Bool) (i e : ℕ) (dropped : Bool) → IsPass n before flags downwards i dropped
+    → slice_index_or flags e false ≡ true → ¬ IsHullNumber n e → ¬ IsSupported n (live_numbers flags) e → IsPass n before (set flags e false) downwards (i + 1) true
+pass-drops n before flags downwards i e dropped p live inner unsupported =
     record {
-      one_each = omega (arith, length-set flags i false, p.one_each);
-      none_lost = none-lost-dropped n flags i p.none_lost (dead-if-unsupported n (live_numbers flags) i p.none_lost inner unsupported);
+      one_each = omega (arith, length-set flags e false, p.one_each);
+      none_lost = none-lost-dropped n flags e p.none_lost (dead-if-unsupported n (live_numbers flags) e p.none_lost inner unsupported);
       fewer = λ _. at dropped refl;
       same = λ h. absurd (false≢true (sym h));
       kept = λ h. absurd (false≢true (sym h));
     }
   where
-    at : (b : Bool) → dropped ≡ b → count_by (λ live. live) (set flags i false) < count_by (λ live. live) before
-    at true e = omega (arith, count-dropped flags i live, p.fewer e)
-    at false e = let same = ap (count_by (λ live. live)) (p.same e) in omega (arith, count-dropped flags i live, same)
+    at : (b : Bool) → dropped ≡ b → count_by (λ l. l) (set flags e false) < count_by (λ l. l) before
+    at true h = omega (arith, count-dropped flags e live, p.fewer h)
+    at false h = let same = ap (count_by (λ l. l)) (p.same h) in omega (arith, count-dropped flags e live, same)
+
+-- each number has its turn
+turn-of : (count e : ℕ) (downwards : Bool) → e < count → (in_turn count e downwards < count) × (in_turn count (in_turn count e downwards) downwards ≡ e)
+turn-of count e true l = (omega arith, omega arith)
+turn-of count e false l = (l, refl)
 
 -- a pass that dropped none leaves closed edges
-pub pass-quiet : (n : NetworkParts) (before flags : List Bool) (i : ℕ) → IsPass n before flags i false → length n.edges ≤ i → AreClosed n (live_numbers flags)
-pass-quiet n before flags i p all =
+pub pass-quiet : (n : NetworkParts) (before flags : List Bool) (downwards : Bool) (i : ℕ) → IsPass n before flags downwards i false → length n.edges ≤ i → AreClosed n (live_numbers flags)
+pass-quiet n before flags downwards i p all =
     all-from-members (λ e. (e < length n.edges) × (IsHullNumber n e ⊎ IsSupported n (live_numbers flags) e)) (live_numbers flags)
     (λ e has.
     let flag = flag-from_live flags e has in
-    let e_in = flag_in flags e flag in
+    let l = flag_in flags e flag in
     let each = p.one_each in
-    (omega arith, p.kept refl e (omega arith) flag))
+    let e_in : e < length n.edges = omega arith in
+    let t = turn-of (length n.edges) e downwards e_in in
+    let before_i = t.0 in
+    let P : ℕ → Type 0 = λ x. slice_index_or flags x false ≡ true → IsHullNumber n x ⊎ IsSupported n (live_numbers flags) x in
+    (e_in, subst P t.1 (p.kept refl (in_turn (length n.edges) e downwards) (omega arith)) flag))

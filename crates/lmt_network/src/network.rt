@@ -199,7 +199,7 @@ impl Network {
         let v = self.point(edge.b);
         let a = self.point(apex(self.tri(l), edge.a));
         let b = self.point(apex(self.tri(r), edge.b));
-        !strictly_convex(u, v, a, b) || d2(u, v) <= d2(a, b)
+        d2(u, v) <= d2(a, b) || !strictly_convex(u, v, a, b)
     }
 }
 

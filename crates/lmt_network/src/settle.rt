@@ -1,5 +1,5 @@
 // Plain elimination.
-ghost use Rattle.std.specs.Prelude.{◌≡◌, ◌<◌, ℕ, List, length, true, false, All, Contains, count_by, IsTrue, ◌↔◌, slice_index_or};
+ghost use Rattle.std.specs.Prelude.{◌≡◌, ◌<◌, ◌-◌, if◌then◌else◌, ℕ, List, length, true, false, All, Contains, count_by, IsTrue, ◌↔◌, slice_index_or};
 ghost use Rattle.std.specs.Bool.{OnTrue, OnFalse};
 ghost use Rattle.exact_predicates.specs.declared.diamond.Diamond.{Diamond};
 ghost use Rattle.exact_predicates.specs.Candidates.{AreCandidates};
@@ -24,11 +24,16 @@ pub fn plain_settle(net: &Network, flags: &mut Flags)
         → AreCandidates net.now.points net.now.hull diamond net.now.edges
         → IsLive net.now.points net.now.hull diamond (live_edges net.now flags.new) }
 {
-    while drop_unsupported(net, flags) {}
+    // Edges that fall one after the other against the way of one pass fall at once in the next.
+    let mut downwards = false;
+    while drop_unsupported(net, flags, downwards) {
+        downwards = !downwards;
+    }
 }
 
-// Goes once through the edges, and drops each without a support. Answers whether one was dropped.
-fn drop_unsupported(net: &Network, flags: &mut Flags) -> bool
+// Goes once through the edges, up or down, and drops each without a support. Answers whether one was
+// dropped.
+fn drop_unsupported(net: &Network, flags: &mut Flags, downwards: bool) -> bool
     requires one_each { length flags.old ≡ length net.now.edges }
     requires none_lost { (es : List ℕ) → AreClosed net.now es → All (Contains (live_numbers flags.old)) es }
     ensures one_each { length flags.new ≡ length net.now.edges }
@@ -38,13 +43,22 @@ fn drop_unsupported(net: &Network, flags: &mut Flags) -> bool
     ensures closed { OnFalse result (AreClosed net.now (live_numbers flags.new)) }
 {
     let mut dropped = false;
-    for e in 0..net.edges() {
+    for k in 0..net.edges() {
+        let e = in_turn(net.edges(), k, downwards);
         if flags.live(e) && !net.is_hull(e) && !is_supported(net, flags, e) {
             flags.drop_edge(e);
             dropped = true;
         }
     }
     dropped
+}
+
+// The k-th of `count` numbers, upwards or downwards.
+fn in_turn(count: u32, k: u32, downwards: bool) -> u32
+    requires { k < count }
+    ensures { result ≡ (if downwards then count - 1 - k else k) }
+{
+    if downwards { count - 1 - k } else { k }
 }
 
 // Whether the live edge e has a support among the live edges.

@@ -3,8 +3,8 @@ use Rattle.lmt_network.specs.Flags.{live_numbers}
 use Rattle.lmt_network.specs.Numbers.{AreClosed}
 use Rattle.lmt_network.proofs.settle.plain_settle.Given as goal
 
-abbrev pub invariant-loop : goal.invariant-loop
-invariant-loop l = (length l.flags ≡ length l.net.edges) × ((es : List ℕ) → AreClosed l.net es → All (Contains (live_numbers l.flags)) es)
+abbrev pub invariant-loop-downwards : goal.invariant-loop-downwards
+invariant-loop-downwards l = (length l.flags ≡ length l.net.edges) × ((es : List ℕ) → AreClosed l.net es → All (Contains (live_numbers l.flags)) es)
 
-abbrev pub decreases-loop : goal.decreases-loop
-decreases-loop l = count_by (λ live. live) l.flags
+abbrev pub decreases-loop-downwards : goal.decreases-loop-downwards
+decreases-loop-downwards l = count_by (λ live. live) l.flags
