@@ -2,11 +2,15 @@ pub mod Barycentric
 pub mod Between
 pub mod Chains
 pub mod Codes
+pub mod Corners
 pub mod Counts
 pub mod DistinctIds
 pub mod Elements
+pub mod Equalities
 pub mod Firsts
 pub mod Flatness
+pub mod FlipSums
+pub mod Flips
 pub mod Gaps
 pub mod HalfPlane
 pub mod InRange
@@ -19,6 +23,7 @@ pub mod Orientation
 pub mod Pairs
 pub mod Places
 pub mod Products
+pub mod Quadrilaterals
 pub mod Ring
 pub mod Rings
 pub mod Roots

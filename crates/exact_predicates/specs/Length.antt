@@ -26,3 +26,8 @@ IsAtLeast ps es bound = (m : ℕ) → 1 ≤ m → (pos m *ℤ bound) ≤ℤ pos 
 -- the edges together are at most this many millionths long
 abbrev pub IsAtMost : List Point → List (ℕ × ℕ) → ℕ → Type 0
 IsAtMost ps es bound = (m : ℕ) → 1 ≤ m → sum_by (length_down ps m) es ≤ m * bound
+
+-- the edges es are together not longer than fs, at each scale
+pub record IsNotLonger (ps : List Point) (es fs : List (ℕ × ℕ)) : Type 0 where
+  pub ups : (m : ℕ) → 1 ≤ m → sum_by (length_up ps m) es ≤ sum_by (length_up ps m) fs
+  pub downs : (m : ℕ) → 1 ≤ m → sum_by (length_down ps m) es ≤ sum_by (length_down ps m) fs

@@ -1,3 +1,5 @@
+pub mod Candidates
+pub mod Flip
 pub mod Hull
 pub mod Length
 pub mod Merging

@@ -35,3 +35,19 @@ pub record IsInClosedTriangle (a b c r : Point) : Type 0 where
   pub left_of_ab : pos 0 ≤ℤ orient a b r
   pub left_of_bc : pos 0 ≤ℤ orient b c r
   pub left_of_ca : pos 0 ≤ℤ orient c a r
+
+-- r and s lie strictly on different sides of the line pq
+abbrev pub AreApart : Point → Point → Point → Point → Type 0
+AreApart p q r s =
+    ((orient p q r <ℤ pos 0) × (pos 0 <ℤ orient p q s)) ⊎ ((pos 0 <ℤ orient p q r) × (orient p q s <ℤ pos 0))
+
+-- the segments pq and rs cross: the ends of each lie strictly on different sides of the other
+pub record Crosses (p q r s : Point) : Type 0 where
+  pub by_line : AreApart p q r s
+  pub by_other : AreApart r s p q
+
+-- r lies in the left diamond of p to q: the open isosceles triangle on the left of pq with base angles of tangent 4/5
+pub record IsInLeftDiamond (p q r : Point) : Type 0 where
+  pub left : pos 0 <ℤ orient p q r
+  pub angle_at_p : (pos 5 *ℤ orient p q r) <ℤ (pos 4 *ℤ dot p q r)
+  pub angle_at_q : (pos 5 *ℤ orient p q r) <ℤ (pos 4 *ℤ dot q p r)

@@ -3,15 +3,21 @@
 //! The definitions of hull, triangulation and length stand in `specs/`.
 #![tactic(auto)]
 
+mod diamond;
 mod edge;
 mod lists;
 mod point;
 mod points;
+mod relations;
 mod staying;
 mod tri;
 
+pub use diamond::Diamond;
 pub use edge::Edge;
-pub use lists::{Hull, PointList, Tris};
+pub use lists::{Edges, Hull, PointList, Tris};
 pub use point::{Point, d2, in_range, orient};
 pub use points::{Points, PointsStop};
+pub use relations::{
+    crosses, in_closed_triangle, in_left_diamond, strictly_between, strictly_convex,
+};
 pub use tri::Tri;

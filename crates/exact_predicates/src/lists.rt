@@ -1,5 +1,6 @@
-// The lists of points and triangles in public types.
+// The lists of points, edges and triangles in public types.
 
+use crate::edge::Edge;
 use crate::point::Point;
 use crate::tri::Tri;
 use mwt_base::ItemList;
@@ -13,3 +14,6 @@ pub type Hull = ItemList<u32>;
 
 /// Triangles, in any order and as often as they are listed.
 pub type Tris = ItemList<Tri>;
+
+/// Edges, in any order and as often as they are listed.
+pub type Edges = ItemList<Edge>;

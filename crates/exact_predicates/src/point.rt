@@ -1,6 +1,6 @@
 // A point of the plane, and the exact tests on points.
 ghost use Rattle.std.specs.Prelude.{◌≡◌, ◌↔◌, ◌*◌, ◌^◌, ◌≤◌, ◌*ℤ◌, unsigned_abs, IsTrue};
-ghost use Rattle.exact_predicates.specs.Plane.{IsInRange, orient, d2};
+ghost use Rattle.exact_predicates.specs.Plane.{IsInRange, orient, dot, d2};
 
 /// A point, with the number that it has in its file. Coordinates are in scaled units.
 #[derive(Clone, Copy)]
@@ -29,6 +29,17 @@ pub fn orient(p: &Point, q: &Point, r: &Point) -> i128
     ensures { result ≡ orient p.now q.now r.now }
 {
     product(q.x - p.x, r.y - p.y) - product(q.y - p.y, r.x - p.x)
+}
+
+/// The inner product of the vectors from `o` to `p` and from `o` to `q`.
+#[tactic(auto, unfolding(crate::specs::Plane::dot))]
+pub fn dot(o: &Point, p: &Point, q: &Point) -> i128
+    requires o_in { IsInRange o.now }
+    requires p_in { IsInRange p.now }
+    requires q_in { IsInRange q.now }
+    ensures { result ≡ dot o.now p.now q.now }
+{
+    product(p.x - o.x, q.x - o.x) + product(p.y - o.y, q.y - o.y)
 }
 
 // The product of two differences of coordinates.

@@ -5,11 +5,10 @@ use Rattle.std.specs.declared.option.Option.{Option}
 use Rattle.mwt_base.specs.declared.status.Status.{Status}
 use Rattle.mwt_base.specs.Told.{IsTold, ReadToEnd, TookMore}
 use Rattle.mwt_base.specs.declared.status.Status.TheVariants.{Done}
-use Rattle.exact_predicates.specs.declared.point.Point.{Point}
-use Rattle.tsplib_points.specs.Plain.{IsPlainFile}
+use Rattle.tsplib_points.specs.Refusals.{refusal}
 use Rattle.mwt_tool.specs.declared.refusal.Refusal.TheVariants.{Usage, TooLong}
 use Rattle.mwt_tool.specs.declared.TheConstants.{INPUT_LIMIT}
-use Rattle.mwt_tool.specs.Intends.{Intends, Refuses, Solves, usage, too_long, solve, not_built, solved}
+use Rattle.mwt_tool.specs.Intends.{Intends, Refuses, Solves, usage, too_long, solve, refused, solved}
 use Rattle.mwt_tool.specs.Said.{Means, IsAcceptedInput}
 use Rattle.mwt_tool.specs.Words.{Accepts}
 
@@ -56,16 +55,16 @@ Means-solve words (Some xs) after bytes status text accepted all within solves =
   intended = solve accepted within solves;
 }
 
--- a plain file is answered with Done
-Solves-done : (input : List ℕ) (status : Status) (text : List ℕ) (nodes : List Point) → IsPlainFile input nodes → Solves input status text → status ≡ Done
-Solves-done input status text nodes plain (not_built none says) = absurd (none nodes plain)
-Solves-done input status text nodes plain (solved file report of is says) = says.0
+-- an accepted file is answered with Done
+Solves-done : (input : List ℕ) (status : Status) (text : List ℕ) → refusal input ≡ None → Solves input status text → status ≡ Done
+Solves-done input status text fine (refused why is says) = cc (fine, is)
+Solves-done input status text fine (solved file report of is says) = says.0
 
-Intends-done : (words : List (List ℕ)) (input : List ℕ) (status : Status) (text : List ℕ) (nodes : List Point) → Accepts words
-    → length input ≤ INPUT_LIMIT → IsPlainFile input nodes → Intends words input status text → status ≡ Done
-Intends-done words input status text nodes accepted within plain (usage away says) = absurd (away accepted)
-Intends-done words input status text nodes accepted within plain (too_long same far says) = absurd (omega arith)
-Intends-done words input status text nodes accepted within plain (solve same within' solves) = Solves-done input status text nodes plain solves
+Intends-done : (words : List (List ℕ)) (input : List ℕ) (status : Status) (text : List ℕ) → Accepts words
+    → length input ≤ INPUT_LIMIT → refusal input ≡ None → Intends words input status text → status ≡ Done
+Intends-done words input status text accepted within fine (usage away says) = absurd (away accepted)
+Intends-done words input status text accepted within fine (too_long same far says) = absurd (omega arith)
+Intends-done words input status text accepted within fine (solve same within' solves) = Solves-done input status text fine solves
 
 pub Means-done : (words : List (List ℕ)) (had : Option (List ℕ)) (status : Status) (text : List ℕ) → IsAcceptedInput words had → Means words had status text → status ≡ Done
 Means-done words None status text has means = absurd (cc has.told)
@@ -73,4 +72,4 @@ Means-done words (Some xs) status text has means =
     let told : xs ≡ means.input = means.told in
     let same : has.input ≡ means.input = let e : Some xs ≡ Some has.input = has.told in cc (e, told) in
     let P : List ℕ → Type 0 = λ s. Intends words s status text in
-    Intends-done words has.input status text has.nodes has.accepted has.within has.plain (subst P (sym same) means.intended)
+    Intends-done words has.input status text has.accepted has.within has.file (subst P (sym same) means.intended)

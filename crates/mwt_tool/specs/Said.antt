@@ -1,11 +1,10 @@
 -- What a call read and wrote, beside its answer.
-use Rattle.std.specs.Prelude.{◌≡◌, ℕ, ◌<◌, ◌≤◌, List, [], length, ⊤, Some}
+use Rattle.std.specs.Prelude.{◌≡◌, ℕ, ◌<◌, ◌≤◌, List, [], length, ⊤, Some, None}
 use Rattle.std.specs.declared.option.Option.{Option}
 use Rattle.mwt_base.specs.Told.{IsTold, Grows, GrowsByPrefix, TookMore}
 use Rattle.mwt_base.specs.declared.status.Status.{Status}
 use Rattle.mwt_base.specs.declared.status.Status.TheVariants.{Done, Broken, Refused, ReadFault, WriteFault, NoMemory}
-use Rattle.exact_predicates.specs.declared.point.Point.{Point}
-use Rattle.tsplib_points.specs.Plain.{IsPlainFile}
+use Rattle.tsplib_points.specs.Refusals.{refusal}
 use Rattle.mwt_tool.specs.declared.TheConstants.{INPUT_LIMIT}
 use Rattle.mwt_tool.specs.Intends.{Intends}
 use Rattle.mwt_tool.specs.Words.{Accepts}
@@ -49,5 +48,4 @@ pub record IsAcceptedInput (words : List (List ℕ)) (had : Option (List ℕ)) :
   pub input : List ℕ
   pub told : had ≡ Some input
   pub within : length input ≤ INPUT_LIMIT
-  pub nodes : List Point
-  pub plain : IsPlainFile input nodes
+  pub file : refusal input ≡ None

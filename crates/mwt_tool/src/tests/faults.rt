@@ -1,76 +1,53 @@
 // The top call over sources and sinks that fail, and the adapters over the streams of std.
-ghost use Rattle.std.specs.Prelude.{ℕ, None};
-
 use crate::run;
 use crate::tests::{bytes_of, plain_file, words_of};
 use mwt_base::{
-    Failed, OpenGate, Sink, Source, Status, StdSink, StdSource, SureSink, SureSource, read_whole,
+    Failed, MemSink, MemSource, OpenGate, Status, StdSink, StdSource, SureSink, read_whole,
     write_whole,
 };
+use std::alloc::Global;
 use std::test::Fail;
-
-// Fails at its second call.
-#[derive(Drop)]
-struct Failing {
-    calls: u64,
-    faults: u64,
-}
-
-impl Failing {
-    fn new() -> Self {
-        Failing {
-            calls: 0,
-            faults: 0,
-        }
-    }
-}
-
-impl Source for Failing {
-    ghost left = { λ s. None };
-
-    ghost faults = { λ s. s.faults };
-
-    ghost reads = { λ s. 0 };
-
-    fn read(&mut self, buf: &mut [u8]) -> Result<usize, Failed> {
-        self.calls = self.calls.saturating_add(1);
-        if self.calls == 2 {
-            self.faults = self.faults.saturating_add(1);
-            return Err(Failed);
-        }
-        Ok(buf.len().min(9))
-    }
-}
-
-impl Sink for Failing {
-    ghost written = { λ s. None };
-
-    ghost faults = { λ s. s.faults };
-
-    fn write(&mut self, buf: &[u8]) -> Result<usize, Failed> {
-        self.calls = self.calls.saturating_add(1);
-        if self.calls == 2 {
-            self.faults = self.faults.saturating_add(1);
-            return Err(Failed);
-        }
-        Ok(buf.len().min(4))
-    }
-}
 
 #[test]
 fn faults_of_the_outside(rt: HostRuntime) -> Result<(), Fail> {
     let alloc = rt.alloc();
     let words = words_of(alloc, &["solve"])?;
-    let mut source = Failing::new();
-    let mut sink = Failing::new();
+    let file = plain_file(alloc, &[(0, 0), (3, 0), (0, 4)])?;
+    let mut source = MemSource::new(bytes_of(file.clone()?)?, 16, vec![in alloc; 2u64]?);
+    let mut sink = mem_sink(alloc, Vec::new(alloc))?;
     let status = run(&rt, alloc, &words, &mut source, &mut sink, &OpenGate);
     assert_eq!(rt; status, Status::ReadFault);
-    assert_eq!(rt; sink.calls, 0, "nothing is written after a read fault");
-    let file = bytes_of(plain_file(alloc, &[(0, 0), (3, 0), (0, 4)])?)?;
-    let mut source = SureSource::new(file, 16);
+    assert_eq!(rt;
+        sink.bytes().len(),
+        0,
+        "nothing is written after a read fault"
+    );
+    let mut source = MemSource::new(bytes_of(file)?, 16, Vec::new(alloc));
+    let mut sink = mem_sink(alloc, vec![in alloc; 2u64]?)?;
     let status = run(&rt, alloc, &words, &mut source, &mut sink, &OpenGate);
     assert_eq!(rt; status, Status::WriteFault);
-    assert_eq!(rt; sink.calls, 2, "nothing is written after a write fault");
+    assert_eq!(rt;
+        sink.bytes(),
+        b"mwt 0\ndiamond of".as_slice(),
+        "nothing more is written after it"
+    );
+    Ok(())
+}
+
+fn mem_sink(alloc: Global, fail: Vec<u64>) -> Result<MemSink, Fail> {
+    MemSink::new(alloc, 16, 4096, fail).map_err(|_| Fail::from("no memory"))
+}
+
+// A sink with too little room takes what fits, and then fails.
+#[test]
+fn sink_without_room(rt: HostRuntime) -> Result<(), Fail> {
+    let alloc = rt.alloc();
+    let mut sink = MemSink::new(alloc, 4, 6, Vec::new(alloc)).map_err(|_| Fail::from("no memory"))?;
+    assert_eq!(rt;
+        write_whole(&mut sink, b"all of it".as_slice()),
+        Err(Failed)
+    );
+    assert_eq!(rt; sink.bytes(), b"all of".as_slice());
     Ok(())
 }
 

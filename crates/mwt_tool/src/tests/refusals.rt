@@ -8,7 +8,7 @@ use std::test::Fail;
 
 const USAGE: &str = "refused 40 Usage\n";
 
-const NOT_BUILT: &str = "refused 9 NotBuilt\n";
+const NO_COORDS: &str = "refused 15 NoCoords\n";
 
 const TOO_LONG: &str = "refused 41 TooLong\n";
 
@@ -28,8 +28,8 @@ fn words_and_lengths(rt: HostRuntime) -> Result<(), Fail> {
         (&["solve", "--diamond", "on"], 9, USAGE),
         (&["--diamond", "off", "solve"], 9, USAGE),
         (&["solve", "--diamond", "off", "solve"], 9, USAGE),
-        (&["solve"], 0, NOT_BUILT),
-        (&["solve"], INPUT_LIMIT, NOT_BUILT),
+        (&["solve"], 0, NO_COORDS),
+        (&["solve"], INPUT_LIMIT, NO_COORDS),
         (&["solve"], INPUT_LIMIT + 1, TOO_LONG),
     ];
     for (words, len, text) in rows {
@@ -54,52 +54,77 @@ fn usage_reads_nothing(rt: HostRuntime) -> Result<(), Fail> {
     Ok(())
 }
 
-// Files that hold no set of points: all on one line, too few that differ, two nodes at one place.
+// Each rule of the point file, in the line that says it is broken.
 #[test]
-fn points_that_are_no_set(rt: HostRuntime) -> Result<(), Fail> {
+fn rules_of_the_point_file(rt: HostRuntime) -> Result<(), Fail> {
     let alloc = rt.alloc();
-    let rows: [&[(i64, i64)]; 5] = [
-        &[(0, 0), (1, 1), (2, 2), (3, 3)],
-        &[(0, 0), (1, 1), (0, 0)],
-        &[(0, 0), (3, 0)],
-        &[(0, 0), (3, 0), (0, 4), (3, 0)],
-        &[(0, 0), (1_000_000_001, 0), (0, 4)],
+    let rows = [
+        ("x\n", "refused 10 Header 1\n"),
+        ("TYPE : ATSP\n", "refused 11 Type 1\n"),
+        ("\nEDGE_WEIGHT_TYPE : GEO\n", "refused 12 WeightType 2\n"),
+        ("NODE_COORD_TYPE : NO_COORDS\n", "refused 13 CoordType 1\n"),
+        ("NAME : r\nDIMENSION : x\n", "refused 14 Dimension 2\n"),
+        ("NAME : r\nDIMENSION : 3\n", "refused 15 NoCoords\n"),
+        (
+            "DIMENSION : 3\nNODE_COORD_SECTION\n1 0\n",
+            "refused 16 CoordLine 3\n",
+        ),
+        (
+            "DIMENSION : 3\nNODE_COORD_SECTION\n1 0 1e-7\n",
+            "refused 17 NotWhole 3\n",
+        ),
+        (
+            "DIMENSION : 1\nNODE_COORD_SECTION\n1 0 2e9\n",
+            "refused 18 TooLarge 3\n",
+        ),
+        (
+            "DIMENSION : 3\nNODE_COORD_SECTION\n1 0 0\n1 5 5\n",
+            "refused 19 RepeatedId 4\n",
+        ),
+        (
+            "DIMENSION : 3\nNODE_COORD_SECTION\n1 0 0\n",
+            "refused 20 Count\n",
+        ),
+        (
+            "DIMENSION : 1\nNODE_COORD_SECTION\n1 0 0\n",
+            "refused 22 TooFew\n",
+        ),
+        (
+            "DIMENSION : 3\nNODE_COORD_SECTION\n1 0 0\n2 1 1\n3 2 2\n",
+            "refused 23 Flat\n",
+        ),
+        ("EOF\n\n\n\n\n\n\n\n\n\n\n.\n", "refused 24 AfterEnd 12\n"),
     ];
-    for nodes in rows {
-        let run = Run::over(&rt, alloc, &["solve"], plain_file(alloc, nodes)?)?;
-        assert_eq!(rt; run.status, Status::Refused);
-        assert_eq!(rt; run.text.as_str(), NOT_BUILT);
+    for (text, line) in rows {
+        let run = Run::over(
+            &rt,
+            alloc,
+            &["solve"],
+            Vec::from_slice(alloc, text.as_bytes())?,
+        )?;
+        assert_eq!(rt; run.status, Status::Refused, "{text}");
+        assert_eq!(rt; run.text.as_str(), line);
     }
     Ok(())
 }
 
-// Every text but the one spelling of a plain file is not built yet.
+// Plain files whose nodes are no set of points.
 #[test]
-fn texts_that_are_not_plain(rt: HostRuntime) -> Result<(), Fail> {
+fn points_that_are_no_set(rt: HostRuntime) -> Result<(), Fail> {
     let alloc = rt.alloc();
-    let head =
-        "NAME : r\nTYPE : TSP\nDIMENSION : 3\nEDGE_WEIGHT_TYPE : EUC_2D\nNODE_COORD_SECTION\n";
-    let tails = [
-        "1 0 0\n2 3 0\n3 0 4\n",
-        "1 0 0\n2 3 0\n3 0 4\nEOF",
-        "1 0 0\n2 3 0\n3 0 4\nEOF\n\n",
-        "1 0 0\n2 3 0\nEOF\n",
-        "1 0 0\n2 3 0\n3 0 4\n4 5 5\nEOF\n",
-        "1 0 0\n3 3 0\n2 0 4\nEOF\n",
-        "1 0 0\n2 03 0\n3 0 4\nEOF\n",
-        "1 0 0\n2 +3 0\n3 0 4\nEOF\n",
-        "1 -0 0\n2 3 0\n3 0 4\nEOF\n",
-        "1 0 0\n2 3.0 0\n3 0 4\nEOF\n",
-        "1  0 0\n2 3 0\n3 0 4\nEOF\n",
-        "1 0 0\r\n2 3 0\n3 0 4\nEOF\n",
-        "1 0 0\n2 99999999999999999999 0\n3 0 4\nEOF\n",
+    let rows: [(&[(i64, i64)], &str); 4] = [
+        (&[(0, 0), (1, 1), (2, 2), (3, 3)], "refused 23 Flat\n"),
+        (&[(0, 0), (1, 1), (0, 0)], "refused 22 TooFew\n"),
+        (&[(0, 0), (3, 0)], "refused 22 TooFew\n"),
+        (
+            &[(0, 0), (1_000_000_001, 0), (0, 4)],
+            "refused 18 TooLarge 7\n",
+        ),
     ];
-    for tail in tails {
-        let mut text = String::from_str(alloc, head)?;
-        text.push_str(tail)?;
-        let run = Run::over(&rt, alloc, &["solve"], text.into_bytes())?;
-        assert_eq!(rt; run.status, Status::Refused, "{tail}");
-        assert_eq!(rt; run.text.as_str(), NOT_BUILT);
+    for (nodes, line) in rows {
+        let run = Run::over(&rt, alloc, &["solve"], plain_file(alloc, nodes)?)?;
+        assert_eq!(rt; run.status, Status::Refused);
+        assert_eq!(rt; run.text.as_str(), line);
     }
     Ok(())
 }

@@ -1,0 +1,7 @@
+use Rattle.std.proofs.Common.{◌≤◌, vec_len}
+use Rattle.diamond_edges.specs.Enumeration.{AreCandidatesBefore}
+use Rattle.diamond_edges.proofs.rows.add_row.Given as goal
+
+abbrev pub invariant-loop-b : goal.invariant-loop-b
+invariant-loop-b l =
+    (AreCandidatesBefore l.points.points l.hull l.diamond l.a l.b l.edges.items) × (vec_len l.edges ≤ 400000)

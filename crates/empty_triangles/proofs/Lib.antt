@@ -1,0 +1,3 @@
+pub mod Emptiness
+pub mod Ends
+pub mod Lists

@@ -1,0 +1,42 @@
+// Reading an ascending list of edges.
+ghost use Rattle.std.specs.Prelude.{◌≡◌, ◌≢◌, ◌<◌, ◌↔◌, IsTrue, AllPairs, IfOk};
+ghost use Rattle.exact_predicates.specs.Candidates.{EdgePrecedes, HasEdge};
+ghost use Rattle.empty_triangles.specs.Enumeration.{is_edge_before, IsPlaceOf, IsRow};
+
+use exact_predicates::Edge;
+use mwt_base::NoMemory;
+use std::alloc::Global;
+
+/// The greater ends of the edges whose lesser end is `a`.
+pub(crate) fn row(alloc: Global, edges: &[Edge], a: u32) -> Result<Vec<u32>, NoMemory>
+    requires ascending { AllPairs EdgePrecedes edges.now }
+    requires a_in { a < 10000 }
+    ensures { IfOk result (λ row. IsRow edges.now a row.items) }
+{
+    let from = place_of(edges, a, 0);
+    let to = place_of(edges, a + 1, 0);
+    Ok(edges[from..to].iter().map(|e| e.b).collect(alloc)?)
+}
+
+/// Whether the edge with these ends is among the edges.
+pub(crate) fn has_edge(edges: &[Edge], u: u32, v: u32) -> bool
+    requires ascending { AllPairs EdgePrecedes edges.now }
+    requires apart { u ≢ v }
+    ensures { IsTrue result ↔ HasEdge edges.now u v }
+{
+    let edge = Edge::of(u, v);
+    let k = place_of(edges, edge.a, edge.b);
+    k < edges.len() && edges[k] == edge
+}
+
+// The place of the first edge that does not come before the one with the ends `a` and `b`.
+fn place_of(edges: &[Edge], a: u32, b: u32) -> usize
+    requires { AllPairs EdgePrecedes edges.now }
+    ensures { IsPlaceOf edges.now a b result }
+{
+    edges.partition_point(
+        |e: &Edge| -> bool
+            ensures { result ≡ is_edge_before a b e.now }
+        { e.a < a || (e.a == a && e.b < b) },
+    )
+}

@@ -1,0 +1,10 @@
+//! The empty triangles whose three sides stand in a list of edges, in ascending order.
+#![tactic(auto)]
+
+mod edges;
+mod rows;
+mod stop;
+mod test;
+
+pub use rows::triangles;
+pub use stop::TriStop;

@@ -1,0 +1,62 @@
+-- Candidate edges, and the empty triangles that they bound.
+use Rattle.std.specs.Prelude.{◌≡◌, ◌≢◌, ◌⊎◌, ℕ, ◌<◌, min, max, ⊤, List, length, All, AllPairs, Any, Contains}
+use Rattle.exact_predicates.specs.declared.diamond.Diamond.{Diamond}
+use Rattle.exact_predicates.specs.declared.diamond.Diamond.TheVariants.{Off}
+use Rattle.exact_predicates.specs.declared.edge.Edge.{Edge}
+use Rattle.exact_predicates.specs.declared.point.Point.{Point}
+use Rattle.exact_predicates.specs.declared.tri.Tri.{Tri}
+use Rattle.exact_predicates.specs.Plane.{IsBetween}
+use Rattle.exact_predicates.specs.PointSet.{point_at}
+use Rattle.exact_predicates.specs.Triangulation.{IsEmpty}
+
+-- the order of edges: by the lesser end, then by the greater
+abbrev pub EdgePrecedes : Edge → Edge → Type 0
+EdgePrecedes e f = (e.a < f.a) ⊎ ((e.a ≡ f.a) × (e.b < f.b))
+
+-- the order of triangles: by a, then by b, then by c
+abbrev pub TriPrecedes : Tri → Tri → Type 0
+TriPrecedes s t = (s.a < t.a) ⊎ (((s.a ≡ t.a) × (s.b < t.b)) ⊎ ((s.a ≡ t.a) × (s.b ≡ t.b) × (s.c < t.c)))
+
+-- e is the edge with the ends u and v
+abbrev pub Joins : Edge → ℕ → ℕ → Type 0
+Joins e u v = (e.a ≡ min u v) × (e.b ≡ max u v)
+
+-- the edge with the ends u and v is among these
+abbrev pub HasEdge : List Edge → ℕ → ℕ → Type 0
+HasEdge es u v = Any (λ e. Joins e u v) es
+
+-- e passes the diamond test: with the test off each edge does
+abbrev pub PassesDiamond : Diamond → List Point → List ℕ → Edge → Type 0
+PassesDiamond Off ps hull e = ⊤
+
+-- e is a candidate edge of the points ps with this hull: no point is between its ends, and it passes the test
+pub record IsCandidate (ps : List Point) (hull : List ℕ) (diamond : Diamond) (e : Edge) : Type 0 where
+  pub b_in : e.b < length ps
+  pub clear : (r : ℕ) → r < length ps → ¬ IsBetween (point_at ps e.a) (point_at ps e.b) (point_at ps r)
+  pub passes : PassesDiamond diamond ps hull e
+
+-- The candidate edges, ascending.
+pub record AreCandidates (ps : List Point) (hull : List ℕ) (diamond : Diamond) (es : List Edge) : Type 0 where
+  pub ascending : AllPairs EdgePrecedes es
+  pub each : All (IsCandidate ps hull diamond) es
+  pub all : (e : Edge) → IsCandidate ps hull diamond e → Contains es e
+
+-- t is an empty triangle of the points ps, and its three sides are among the edges es
+pub record IsEmptyOver (ps : List Point) (es : List Edge) (t : Tri) : Type 0 where
+  pub empty : IsEmpty ps t
+  pub ab : HasEdge es t.a t.b
+  pub bc : HasEdge es t.b t.c
+  pub ca : HasEdge es t.c t.a
+
+-- The empty triangles whose sides are among the edges es, ascending.
+pub record AreTrianglesOver (ps : List Point) (es : List Edge) (ts : List Tri) : Type 0 where
+  pub ascending : AllPairs TriPrecedes ts
+  pub each : All (IsEmptyOver ps es) ts
+  pub all : (t : Tri) → IsEmptyOver ps es t → Contains ts t
+
+-- more than `limit` things are P: some distinct ones are
+pub record AreMoreThan {X : Type 0} (P : X → Type 0) (limit : ℕ) : Type 0 where
+  pub some : List X
+  pub distinct : AllPairs (λ x y. x ≢ y) some
+  pub each : All P some
+  pub more : limit < length some

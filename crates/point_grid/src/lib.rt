@@ -1,0 +1,10 @@
+//! Emptiness queries on a set of points: is there a point on this segment, in this triangle, in this
+//! diamond? Each answers the least number of such a point, or none.
+//!
+//! For now a query goes through the points whose numbers can be such a point's. A cell index may take
+//! the place of the list behind the queries: no contract speaks of how a grid finds its answers.
+#![tactic(auto)]
+
+mod grid;
+
+pub use grid::Grid;
