@@ -1,34 +1,36 @@
 -- Whole numbers written as digits.
-use Rattle.std.proofs.Common.{◌≡◌, ℕ, fold, ◌++◌, append_assoc, ◌+◌, ◌-◌, ◌*◌, ◌<◌, Bool, true, false, ◌&&◌, List, [], ◌∷◌, length, get_or, take, refl, sym, ap, ◌∙◌}
+use Rattle.std.proofs.Common.{◌≡◌, ℕ, fold, ◌++◌, append_assoc, ◌+◌, ◌-◌, ◌*◌, ◌<◌, true, List, [], ◌∷◌, length, get_or, take, refl, sym, ap, ◌∙◌}
 use Rattle.std.specs.List.{list_all}
 use Rattle.std.proofs.lemmas.List.Sums.{fold_more}
 use Rattle.std.proofs.lemmas.List.Folds.{list_all_more}
 use Rattle.std.proofs.lemmas.List.{take_more}
 use Rattle.tsplib_points.specs.Numbers.{is_digit, number}
 
+-- no digits spell 0
 pub number_none : number [] ≡ 0
 unfolding number
 number_none = refl
 
+-- one more digit of a text
 pub number_more : (t : List ℕ) (i : ℕ) → i < length t → number (take (i + 1) t) ≡ 10 * number (take i t) + (get_or t i 0 - 48)
 unfolding number
 number_more t i h = fold_more (λ n b. 10 * n + (b - 48)) 0 t i 0 h
 
-pub and_false : (b : Bool) → (b && false) ≡ false
-and_false true = refl
-and_false false = refl
-
+-- one more byte of a text is a digit
 pub digits_more : (t : List ℕ) (i : ℕ) → i < length t → list_all is_digit (take i t) ≡ true → is_digit (get_or t i 0) ≡ true → list_all is_digit (take (i + 1) t) ≡ true
 digits_more t i h a e = list_all_more is_digit t i 0 h ∙ rw (a, e) refl
 
+-- a fold with one more element
 fold_push : {X Y : Type 0} (f : Y → X → Y) (a : Y) (xs : List X) (y : X) → fold f a (xs ++ y ∷ []) ≡ f (fold f a xs) y
 fold_push f a [] y = refl
 fold_push f a (x ∷ xs) y = fold_push f (f a x) xs y
 
+-- a digit behind a text
 pub number_push : (t : List ℕ) (b : ℕ) → number (t ++ b ∷ []) ≡ 10 * number t + (b - 48)
 unfolding number
 number_push t b = fold_push (λ n b. 10 * n + (b - 48)) 0 t b
 
+-- one more digit of a text behind another
 pub number_more_behind : (s t : List ℕ) (i : ℕ) → i < length t → number (s ++ take (i + 1) t) ≡ 10 * number (s ++ take i t) + (get_or t i 0 - 48)
 number_more_behind s t i h =
     ap number (ap (λ u. s ++ u) (take_more t i 0 h) ∙ sym (append_assoc s (take i t) (get_or t i 0 ∷ []))) ∙ number_push (s ++ take i t) (get_or t i 0)

@@ -5,15 +5,17 @@ use Rattle.tsplib_points.specs.Numbers.{small_number}
 use Rattle.tsplib_points.specs.Real.{real_of}
 use Rattle.tsplib_points.specs.Nodes.{node_of, node_from}
 
--- a line of fewer than three words is no node line
+-- a line of no words is no node line, nor is one of fewer than three
 pub none_of_none : (line : ℕ) (t : List ℕ) → words t ≡ [] → node_of (record { number = line; text = t }) ≡ None
 unfolding node_of
 none_of_none line t e = rw e refl
 
+-- of one word
 pub none_of_one : (line : ℕ) (t a u : List ℕ) → words t ≡ a ∷ words u → words u ≡ [] → node_of (record { number = line; text = t }) ≡ None
 unfolding node_of
 none_of_one line t a u e f = rw (e, f) refl
 
+-- of two
 pub none_of_two : (line : ℕ) (t a u b v : List ℕ) → words t ≡ a ∷ words u → words u ≡ b ∷ words v → words v ≡ [] → node_of (record { number = line; text = t }) ≡ None
 unfolding node_of
 none_of_two line t a u b v e f g = rw (e, f, g) refl

@@ -1,16 +1,12 @@
 -- How a text is cut into lines and words.
-use Rattle.std.proofs.Common.{◌≡◌, ℕ, suc, ◌+◌, ◌<◌, ◌≤◌, Bool, true, false, not, is_some, cond, eqb, List, [], ◌∷◌, length, take, drop, map, filter, ◌⊎◌, inl, inr, refl, sym, ap, ◌∙◌, arith}
+use Rattle.std.proofs.Common.{◌≡◌, ℕ, suc, ◌+◌, ◌<◌, ◌≤◌, Bool, true, false, not, is_some, cond, eqb, List, [], ◌∷◌, length, take, drop, map, filter, inl, inr, refl, sym, ap, ◌∙◌, arith}
 use Rattle.std.specs.List.{slice_split, list_any, position, position_or_len, prefix_len, before_first, after_first}
 use Rattle.std.proofs.Math.Seq.{take-length}
 use Rattle.std.proofs.Math.ListN.{drop_of_length-le}
-use Rattle.std.proofs.lemmas.Bool.{cases_lt, lt-ltb, le-ltb, eqb-true, false≢true}
+use Rattle.std.proofs.lemmas.Bool.{cases_Bool, cases_lt, lt-ltb, le-ltb, eqb-true, false≢true}
 use Rattle.std.proofs.lemmas.List.Sums.{prefix_len-le-length, fails_before_first}
 use Rattle.std.proofs.lemmas.List.Splits.{slice_split_first, slice_split_none, length-slice_split, slice_split-cons_yes}
 use Rattle.tsplib_points.specs.Lines.{is_line_feed, is_blank, texts, without_return, without_empty_last, is_empty, trim_front, words}
-
-pub true_or_false : (b : Bool) → (b ≡ true) ⊎ (b ≡ false)
-true_or_false true = inl refl
-true_or_false false = inr refl
 
 -- a text with no place to cut
 pub record IsWhole (p : ℕ → Bool) (xs : List ℕ) : Type 0 where
@@ -31,14 +27,15 @@ whole p xs h =
 -- an element that passes stands before the end
 pub some_any : (p : ℕ → Bool) (xs : List ℕ) → position_or_len p xs < length xs → list_any p xs ≡ true
 some_any p [] h = absurd (omega arith)
-some_any p (x ∷ xs) h = elim (true_or_false (p x)) [
+some_any p (x ∷ xs) h = elim (cases_Bool (p x)) [
   | inl e ↦ rw e refl
   | inr e ↦ let g : position_or_len p xs < length xs = omega (arith, rw e at h) in rw e (some_any p xs g)
 ]
 
+-- none passes where the end is reached
 pub none_any : (p : ℕ → Bool) (xs : List ℕ) → length xs ≤ position_or_len p xs → list_any p xs ≡ false
 none_any p [] h = refl
-none_any p (x ∷ xs) h = elim (true_or_false (p x)) [
+none_any p (x ∷ xs) h = elim (cases_Bool (p x)) [
   | inl e ↦ absurd (omega (arith, rw e at h))
   | inr e ↦ let g : length xs ≤ position_or_len p xs = omega (arith, rw e at h) in rw e (none_any p xs g)
 ]
@@ -72,6 +69,7 @@ pub nothing : (bs : List ℕ) → eqb (length bs) 0 ≡ true → is_empty bs ≡
 nothing [] h = refl
 nothing (b ∷ bs) h = absurd (omega (arith, eqb-true (length (b ∷ bs)) 0 h))
 
+-- the same where the length is not 0
 pub something : (bs : List ℕ) → eqb (length bs) 0 ≡ false → is_empty bs ≡ false
 something [] h = absurd (false≢true (sym h))
 something (b ∷ bs) h = refl
@@ -93,7 +91,8 @@ texts_next bs h = elim (cases_lt (position_or_len is_line_feed bs) (length bs)) 
       rw (w.before, w.after) (ap (λ q. map without_return (without_empty_last q)) w.one ∙ ap (map without_return) (one_left bs h))
 ]
 
-one_suc : (n : ℕ) → 1 + n ≡ suc n
+-- the two ways to say one more
+pub one_suc : (n : ℕ) → 1 + n ≡ suc n
 one_suc n = omega arith
 
 -- a byte that is no blank begins a word
@@ -104,11 +103,12 @@ word_first b bs e = rw e (ap (λ k. take k (b ∷ bs)) (one_suc (position_or_len
 pub words_trim : (t : List ℕ) → words t ≡ words (trim_front t)
 unfolding words trim_front
 words_trim [] = refl
-words_trim (b ∷ bs) = elim (true_or_false (is_blank b)) [
+words_trim (b ∷ bs) = elim (cases_Bool (is_blank b)) [
   | inl e ↦ rw (slice_split-cons_yes is_blank b bs e, e) (words_trim bs ∙ ap (λ k. words (drop k (b ∷ bs))) (sym (one_suc (prefix_len is_blank bs))))
   | inr e ↦ ap (λ t. words (drop (cond t (1 + prefix_len is_blank bs) 0) (b ∷ bs))) (sym e)
 ]
 
+-- nothing has no words
 pub words_none : words [] ≡ []
 unfolding words
 words_none = refl
@@ -126,7 +126,7 @@ words_next b bs e = elim (cases_lt (position_or_len is_blank (b ∷ bs)) (length
 pub trimmed : (t : List ℕ) (b : ℕ) (bs : List ℕ) → trim_front t ≡ b ∷ bs → is_blank b ≡ false
 unfolding trim_front
 trimmed [] b bs h = absurd (cc)
-trimmed (x ∷ xs) b bs h = elim (true_or_false (is_blank x)) [
+trimmed (x ∷ xs) b bs h = elim (cases_Bool (is_blank x)) [
   | inl e ↦ trimmed xs b bs (ap (λ k. drop k (x ∷ xs)) (sym (one_suc (prefix_len is_blank xs))) ∙ ap (λ t. drop (cond t (1 + prefix_len is_blank xs) 0) (x ∷ xs)) (sym e) ∙ h)
   | inr e ↦ let g : x ∷ xs ≡ b ∷ bs = ap (λ t. drop (cond t (1 + prefix_len is_blank xs) 0) (x ∷ xs)) (sym e) ∙ h in
       let same : x ≡ b = cc in rw same at e

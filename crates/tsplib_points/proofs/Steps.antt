@@ -1,9 +1,10 @@
 -- A pass goes over one more line.
-use Rattle.std.proofs.Common.{◌≡◌, ℕ, zero, suc, ◌+◌, Bool, true, false, not, ◌&&◌, ◌||◌, cond, eqb, List, [], ◌∷◌, ◌++◌, take, drop, Option, Some, None, is_some, inl, inr, refl, sym, ap, ◌∙◌, arith, bytes_eq, codes, IsSomeAnd}
+use Rattle.std.proofs.Common.{◌≡◌, ℕ, zero, suc, Bool, true, false, ◌||◌, cond, eqb, List, [], ◌∷◌, ◌++◌, take, drop, Option, Some, None, is_some, inl, inr, refl, sym, ap, ◌∙◌, arith, bytes_eq, codes, IsSomeAnd}
 use Rattle.std.specs.List.{list_any, list_all, prefix_len, before_first, cons_option}
 use Rattle.std.specs.Ordering.{nat_cmp}
 use Rattle.std.specs.BTreeSet.{BTreeSet, contains}
 use Rattle.std.specs.BTreeMap.{is_at}
+use Rattle.std.proofs.lemmas.Bool.{cases_Bool, and_right, and_parts, or_right}
 use Rattle.std.proofs.lemmas.Bool.Decides.{nat_tests}
 use Rattle.std.proofs.lemmas.Slice.Eq.{bytes_eq-Decides}
 use Rattle.tsplib_points.specs.declared.node.KeptNode.{KeptNode}
@@ -16,29 +17,29 @@ use Rattle.tsplib_points.specs.Nodes.{Node, node_of, nodes, node_reason, has_num
 use Rattle.tsplib_points.specs.Refusals.{line_reason}
 use Rattle.tsplib_points.specs.Gathering.{KeepsNode}
 use Rattle.tsplib_points.specs.Passing.{IsPassed}
-use Rattle.tsplib_points.proofs.Pieces.{true_or_false, words_trim, words_none}
-use Rattle.tsplib_points.proofs.Passes.{or_true, or_false, any_push, any_push_no, any_push_yes, all_zip_push}
+use Rattle.tsplib_points.proofs.Pieces.{one_suc, words_trim, words_none}
+use Rattle.tsplib_points.proofs.Passes.{or_false, any_push, any_push_no, any_push_yes, all_zip_push}
 use Rattle.tsplib_points.proofs.Growth.{header_open, header_grows, header_ended, header_closed, dimension_stays, any_dimension_stays, dimension_same, dimension_first, nodes_ended, nodes_header, nodes_grow, nodes_stay}
 
 -- a text of blanks is nothing behind them
 blank_trim : (t : List ℕ) → list_all is_blank t ≡ true → trim_front t ≡ []
 unfolding trim_front
 blank_trim [] h = refl
-blank_trim (b ∷ bs) h = elim (true_or_false (is_blank b)) [
+blank_trim (b ∷ bs) h = elim (cases_Bool (is_blank b)) [
   | inl e ↦ rw e (ap (λ k. drop k (b ∷ bs)) (one_suc (prefix_len is_blank bs)) ∙ blank_trim bs (rw e at h))
   | inr e ↦ absurd (let g = rw e at h in cc)
-] where
-  one_suc : (n : ℕ) → 1 + n ≡ suc n
-  one_suc n = omega arith
+]
 
+-- nor is there more in a front of it
 blank_take : (n : ℕ) (t : List ℕ) → list_all is_blank t ≡ true → list_all is_blank (take n t) ≡ true
 blank_take zero t h = refl
 blank_take (suc n) [] h = refl
-blank_take (suc n) (b ∷ bs) h = elim (true_or_false (is_blank b)) [
+blank_take (suc n) (b ∷ bs) h = elim (cases_Bool (is_blank b)) [
   | inl e ↦ rw e (blank_take n bs (rw e at h))
   | inr e ↦ absurd (let g = rw e at h in cc)
 ]
 
+-- nothing has no blanks at its back
 trim_back_none : trim_back [] ≡ []
 unfolding trim_back
 trim_back_none = refl
@@ -48,10 +49,6 @@ blank_keyword : (t : List ℕ) → list_all is_blank t ≡ true → (parts_of t)
 unfolding parts_of trim
 blank_keyword t h = ap trim_back (blank_trim (before_first is_colon t) (blank_take _ t h)) ∙ trim_back_none
 
-and_false : (b : Bool) → (b && false) ≡ false
-and_false true = refl
-and_false false = refl
-
 -- a blank line is nothing
 pub record IsNothing (l : Line) : Type 0 where
   pub end : is_end l ≡ false
@@ -59,6 +56,7 @@ pub record IsNothing (l : Line) : Type 0 where
   pub dimension : is_dimension l ≡ false
   pub node : node_of l ≡ None
 
+-- for its text has no keyword and no words
 pub blank_nothing : (n : ℕ) (t : List ℕ) → list_all is_blank t ≡ true → IsNothing (record { number = n; text = t })
 unfolding is_end is_section is_dimension is_end_mark is_section_mark is_dimension_entry node_of
 blank_nothing n t h =
@@ -67,7 +65,7 @@ blank_nothing n t h =
     record {
       end = rw none refl;
       section = rw none refl;
-      dimension = rw none (and_false (parts_of t).has_colon);
+      dimension = rw none (and_right (parts_of t).has_colon false refl);
       node = rw no_words refl;
     }
 
@@ -76,20 +74,24 @@ pub reason_blank : (before : List Line) (l : Line) → list_all is_blank l.text 
 unfolding line_reason
 reason_blank before l b = rw b refl
 
+-- behind EOF
 pub reason_ended : (before : List Line) (l : Line) → list_all is_blank l.text ≡ false → list_any is_end before ≡ true → line_reason before l ≡ Some AfterEnd
 unfolding line_reason
 reason_ended before l b e = rw (b, e) refl
 
+-- in the header
 pub reason_header : (before : List Line) (l : Line) → list_all is_blank l.text ≡ false → list_any is_end before ≡ false → list_any is_section before ≡ false
     → line_reason before l ≡ header_reason (list_any is_dimension before) (parts_of l.text)
 unfolding line_reason
 reason_header before l b e s = rw (b, e, s) refl
 
+-- in the section, at EOF
 pub reason_end : (before : List Line) (l : Line) → list_all is_blank l.text ≡ false → list_any is_end before ≡ false → list_any is_section before ≡ true → is_end l ≡ true
     → line_reason before l ≡ None
 unfolding line_reason
 reason_end before l b e s i = rw (b, e, s, i) refl
 
+-- in the section, at a line that is not EOF
 pub reason_section : (before : List Line) (l : Line) → list_all is_blank l.text ≡ false → list_any is_end before ≡ false → list_any is_section before ≡ true → is_end l ≡ false
     → line_reason before l ≡ node_reason (nodes before) (node_of l)
 unfolding line_reason
@@ -99,18 +101,15 @@ reason_section before l b e s i = rw (b, e, s, i) refl
 pub dimension_known : (pass : Pass) (before : List Line) → IsPassed pass before → pass.has_end ≡ false → pass.found.has_section ≡ false → list_any is_dimension before ≡ is_some pass.found.dimension
 dimension_known pass before h e s = ap (list_any is_dimension) (sym (header_open before (sym h.end ∙ e) (sym h.section ∙ s))) ∙ sym h.some_told
 
--- EOF is no section line
+-- what a test of bytes says
 bytes_are : (xs ys : List ℕ) → bytes_eq xs ys ≡ true → xs ≡ ys
 bytes_are xs ys h = (bytes_eq-Decides xs ys).0 h
 
-first_true : (a b : Bool) → (a && b) ≡ true → a ≡ true
-first_true true b h = refl
-first_true false b h = absurd (cc)
-
+-- EOF is no section line
 pub end_no_section : (p : Parts) → is_end_mark p ≡ true → is_section_mark p ≡ false
 unfolding is_end_mark is_section_mark
 end_no_section p h =
-    let word = bytes_are p.keyword (codes "EOF") (first_true (bytes_eq p.keyword (codes "EOF")) (is_empty p.value) h) in
+    let word = bytes_are p.keyword (codes "EOF") (and_parts (bytes_eq p.keyword (codes "EOF")) (is_empty p.value) h).0 in
     rw word refl
 
 -- before the first line
@@ -241,7 +240,7 @@ pub more_numbers : (old new : BTreeSet ℕ) (kept : KeptNode) (n : Node) → Kee
 more_numbers old new kept n k h q =
     h q ∙ ap (λ b. cond b true (contains nat_cmp old q)) (at_number kept.number q ∙ ap (λ m. eqb m q) k.number) ∙ either (eqb n.number q) (contains nat_cmp old q) where
       either : (a b : Bool) → cond a true b ≡ (b || a)
-      either true b = sym (or_true b)
+      either true b = sym (or_right b true refl)
       either false b = sym (or_false b)
 
 -- a node is judged by its number, where its coordinates are kept
@@ -261,12 +260,3 @@ pub first_dimension : (has : Bool) (p : Parts) → is_end_mark p ≡ false → i
 unfolding header_reason
 first_dimension true p i j d h = let g = rw (i, j, d) at h in cc
 first_dimension false p i j d h = refl
-
--- what is not a new number is there
-pub not_new : (is_new there : Bool) → is_new ≡ not there → is_new ≡ false → there ≡ true
-not_new is_new true e h = refl
-not_new is_new false e h = absurd (cc)
-
-pub is_new_number : (is_new there : Bool) → is_new ≡ not there → is_new ≡ true → there ≡ false
-is_new_number is_new true e h = absurd (cc)
-is_new_number is_new false e h = refl

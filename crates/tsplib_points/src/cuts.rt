@@ -1,5 +1,6 @@
 // How a text is cut.
-ghost use Rattle.std.specs.Prelude.{◌≡◌, ◌-◌, ◌≤◌, ◌==◌, ℕ, Bool, length, position};
+ghost use Rattle.std.specs.Prelude.{◌≡◌, ◌-◌, ◌<◌, ◌≤◌, ◌==◌, ℕ, Bool, length, position};
+ghost use Rattle.std.specs.Option.{ForSome};
 ghost use Rattle.std.specs.List.{before_first, after_first};
 ghost use Rattle.tsplib_points.specs.Lines.{is_blank, trim_front, trim_back, trim};
 ghost use Rattle.tsplib_points.specs.Real.{is_power};
@@ -12,35 +13,39 @@ pub fn is_blank(b: u8) -> bool
 
 // Where a byte comes first.
 pub fn position_of(text: &[u8], byte: u8) -> Option<usize>
-    ensures { result ≡ position (λ b. b == byte) text.now }
+    ensures first { result ≡ position (λ b. b == byte) text.now }
+    ensures within { ForSome result (λ n. n < length text.now) }
 {
     text.iter().position(|b| *b == byte)
 }
 
 // Where a blank comes first.
 pub fn position_of_blank(text: &[u8]) -> Option<usize>
-    ensures { result ≡ position is_blank text.now }
+    ensures first { result ≡ position is_blank text.now }
+    ensures within { ForSome result (λ n. n < length text.now) }
 {
     text.iter().position(|b| is_blank(*b))
 }
 
 // Where `e` or `E` comes first.
 pub fn position_of_power(text: &[u8]) -> Option<usize>
-    ensures { result ≡ position is_power text.now }
+    ensures first { result ≡ position is_power text.now }
+    ensures within { ForSome result (λ n. n < length text.now) }
 {
     text.iter().position(|b| *b == b'e' || *b == b'E')
 }
 
 // What stands before a place, or all where there is none, and what stands behind it.
 pub fn cut_at(text: &[u8], place: Option<usize>) -> (&[u8], &[u8])
+    requires { ForSome place (λ n. n < length text.now) }
     ensures before { (p : ℕ → Bool) → place ≡ position p text.now → result.0.now ≡ before_first p text.now }
     ensures behind { (p : ℕ → Bool) → place ≡ position p text.now → result.1.now ≡ after_first p text.now }
     ensures len { length result.0.now ≤ length text.now }
     ensures rest { length result.1.now ≤ length text.now - 1 }
 {
     match place {
-        Some(n) if n < text.len() => (&text[..n], &text[n + 1..]),
-        _ => (text, &[]),
+        Some(n) => (&text[..n], &text[n + 1..]),
+        None => (text, &[]),
     }
 }
 

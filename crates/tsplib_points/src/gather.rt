@@ -81,15 +81,11 @@ impl Pass {
             Ok(kept) => kept,
             Err(why) => return Err(FileStop::Refused(why.at(number))),
         };
-        let Ok(is_new) = self.numbers.insert(kept.number) else {
-            return Err(FileStop::NoMemory);
-        };
+        let is_new = self.numbers.insert(kept.number)?;
         if !is_new {
             return Err(FileStop::Refused(Reason::RepeatedId.at(number)));
         }
-        let Ok(()) = self.found.nodes.push(kept) else {
-            return Err(FileStop::NoMemory);
-        };
+        self.found.nodes.push(kept)?;
         Ok(())
     }
 

@@ -11,6 +11,6 @@ pub returns-clause-line : goal.returns-clause-line
 returns-clause-line c =
     let text = c.args.self.now.rest.now in
     let some : 0 < length text = grind (arith, common_steps) in
-    let line = c.cut_at.ensures.before is_line_feed c.position_of.ensures in
-    let rest = c.cut_at.ensures.behind is_line_feed c.position_of.ensures in
+    let line = c.cut_at.ensures.before is_line_feed c.position_of.ensures.first in
+    let rest = c.cut_at.ensures.behind is_line_feed c.position_of.ensures.first in
     rw (c.without_return.ensures.line, line, rest) (texts_next text some)

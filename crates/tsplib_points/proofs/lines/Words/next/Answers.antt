@@ -13,6 +13,6 @@ pub returns-clause-word : goal.returns-clause-word
 returns-clause-word c =
     let some = something _ (sym c.is_empty.ensures ∙ c.if-is_empty.false) in
     let left = rw c.trim_front-text.ensures.trimmed at some in
-    let word = c.cut_at.ensures.before is_blank c.position_of_blank.ensures in
-    let rest = c.cut_at.ensures.behind is_blank c.position_of_blank.ensures in
+    let word = c.cut_at.ensures.before is_blank c.position_of_blank.ensures.first in
+    let rest = c.cut_at.ensures.behind is_blank c.position_of_blank.ensures.first in
     rw (word, rest, c.trim_front-text.ensures.trimmed) (words_trim c.args.self.now.rest.now ∙ rw left at (words_after c.args.self.now.rest.now))
