@@ -15,7 +15,7 @@ const MOST: usize = 400_000;
 
 /// The candidate edges of the points: those with no point between their ends, and, with the diamond
 /// test on, that pass it. They come in ascending order. `Dense` says that there are more than 400,000;
-/// the edges beyond are not enumerated then.
+/// the edges beyond are not enumerated then. For n points it takes time n^2 log n at most.
 ///
 /// The test is due to R. L. S. Drysdale, S. McElfresh and J. S. Snoeyink (2001).
 pub fn candidates<R: Threads + Sync>(
@@ -35,7 +35,7 @@ pub fn candidates<R: Threads + Sync>(
 {
     let mut edges = Vec::new(alloc);
     for a in 0..points.len() {
-        add_row(alloc, points, grid, hull, diamond, a, &mut edges)?;
+        add_row(alloc, points, hull, diamond, a, &mut edges)?;
     }
     Ok(Edges::of(edges))
 }
@@ -44,13 +44,11 @@ pub fn candidates<R: Threads + Sync>(
 fn add_row(
     alloc: Global,
     points: &Points,
-    grid: &Grid,
     hull: &Hull,
     diamond: Diamond,
     a: u32,
     edges: &mut Vec<Edge>,
 ) -> Result<(), EdgeStop>
-    requires grid { grid.now ≡ points.now.points }
     requires a_in { a < length points.now.points }
     requires so_far { AreCandidatesBefore points.now.points hull.now diamond a 0 edges.old.items }
     requires few { vec_len edges.old ≤ 400000 }
@@ -60,7 +58,7 @@ fn add_row(
         AreMoreThan (IsCandidate points.now.points hull.now diamond) 400000) }
 {
     let count = points.len();
-    let seen = seen_from(alloc, points, grid, a)?;
+    let seen = seen_from(alloc, points, a)?;
     for b in a + 1..count {
         let edge = Edge { a, b };
         if is_candidate(points, hull, diamond, &seen, edge) {

@@ -7,6 +7,7 @@ pub mod Counts
 pub mod DistinctIds
 pub mod Elements
 pub mod Equalities
+pub mod Few
 pub mod Firsts
 pub mod Flatness
 pub mod FlipSums
@@ -24,6 +25,7 @@ pub mod Pairs
 pub mod Places
 pub mod Products
 pub mod Quadrilaterals
+pub mod Reordered
 pub mod Ring
 pub mod Rings
 pub mod Roots

@@ -3,8 +3,12 @@
 //!
 //! For now a query goes through the points whose numbers can be such a point's. A cell index may take
 //! the place of the list behind the queries: no contract speaks of how a grid finds its answers.
+//! Beside the queries stands the order in which a point sees the points after it.
 #![tactic(auto)]
 
+mod direction;
 mod grid;
+mod sight;
 
+pub use direction::by_direction;
 pub use grid::Grid;

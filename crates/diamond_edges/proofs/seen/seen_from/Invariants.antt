@@ -1,6 +1,5 @@
-use Rattle.std.proofs.Common.{vec_len, ◌≡◌}
-use Rattle.diamond_edges.proofs.Marks.{AreMarksBelow}
+use Rattle.diamond_edges.proofs.Marks.{AreMarked}
 use Rattle.diamond_edges.proofs.seen.seen_from.Given as goal
 
-abbrev pub invariant-loop-b : goal.invariant-loop-b
-invariant-loop-b l = (AreMarksBelow l.points.points l.a l.b l.marks.items) × (vec_len l.marks ≡ l.b)
+abbrev pub invariant-loop-k : goal.invariant-loop-k
+invariant-loop-k l = AreMarked l.points.points l.a l.order.items l.k l.marks.items

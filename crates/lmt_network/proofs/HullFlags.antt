@@ -1,0 +1,93 @@
+-- Which edges are hull edges.
+use Rattle.std.proofs.Common.{◌≡◌, ◌≢◌, ◌↔◌, ℕ, ◌+◌, ◌<◌, ◌≤◌, Bool, true, false, List, [], length, set, slice_index, slice_index_or, replicate, AllPairs, IsTrue, refl, ap, sym, ◌∙◌, subst, ⊎_elim, arith}
+use Rattle.std.specs.List.{HoldsAt}
+use Rattle.std.proofs.lemmas.Bool.{false≢true, cases_lt, cases_eq}
+use Rattle.std.proofs.lemmas.List.{get_or_default, length-replicate, get_or-replicate, length-set, get_or-set_same, get_or-set_other}
+use Rattle.exact_predicates.specs.declared.edge.Edge.{Edge}
+use Rattle.exact_predicates.specs.Candidates.{EdgePrecedes, Joins}
+use Rattle.exact_predicates.proofs.Equalities.{Joins-only, Joins-ends, Joins-comm}
+use Rattle.exact_predicates.proofs.Rings.{IsNext, place_of_pair, pair_of_place}
+use Rattle.lmt_network.specs.Live.{IsHullEdge}
+use Rattle.lmt_network.specs.Network.{NetworkParts, edge_at}
+use Rattle.lmt_network.specs.Numbers.{IsHullNumber}
+use Rattle.lmt_network.specs.Tables.{AreHullFlags}
+use Rattle.lmt_network.proofs.FlipMinimal.{hull-edge}
+use Rattle.lmt_network.proofs.Naming.{edge_at-once}
+
+-- what a flag says
+pub flag-read : (n : NetworkParts) (flags : List Bool) (e : ℕ) (r : Bool) → AreHullFlags n.hull n.edges flags → e < length n.edges → r ≡ slice_index_or flags e r → IsTrue r ↔ IsHullNumber n e
+flag-read n flags e r are e_in is =
+    let many = are.as_many in
+    let same : slice_index_or flags e false ≡ r = get_or_default flags e false r (omega arith) ∙ sym is in
+    let both = are.each e e_in _ in
+    (λ set. both.0 (same ∙ set), λ hull. sym same ∙ both.1 hull)
+
+-- the flags of the first i pairs of the hull
+pub record AreFlagsUpto (hull : List ℕ) (es : List Edge) (i : ℕ) (flags : List Bool) : Type 0 where
+  pub as_many : length flags ≡ length es
+  pub only : (e : ℕ) → e < length es → slice_index_or flags e false ≡ true → HoldsAt (IsHullEdge hull) es e
+  pub each : (k u v : ℕ) → k < i → slice_index hull k ≡ u → IsNext hull k v → (e : ℕ) → e < length es → HoldsAt (λ x. Joins x u v) es e → slice_index_or flags e false ≡ true
+
+pub flags-none : (hull : List ℕ) (es : List Edge) (flags : List Bool) → flags ≡ replicate (length es) false → AreFlagsUpto hull es 0 flags
+flags-none hull es flags is =
+    rw is (record {
+      as_many = length-replicate (length es) false;
+      only = λ e e_in set. absurd (false≢true (sym (get_or-replicate (length es) e false false e_in) ∙ set));
+      each = λ k u v k_in. absurd (omega arith);
+    })
+
+-- the edge with two ends has one number
+joins-once : (es : List Edge) (u v i j : ℕ) → AllPairs EdgePrecedes es → i < length es → j < length es → HoldsAt (λ x. Joins x u v) es i → HoldsAt (λ x. Joins x u v) es j → i ≡ j
+joins-once es u v i j up i_in j_in h k =
+    let n : NetworkParts = record { points = []; hull = []; edges = es; tris = [] } in
+    edge_at-once n i j up i_in j_in (Joins-only (edge_at n i) (edge_at n j) u v (h _) (k _))
+
+pub flags-more : (hull : List ℕ) (es : List Edge) (i : ℕ) (flags : List Bool) (v e : ℕ) → AllPairs EdgePrecedes es → AreFlagsUpto hull es i flags → i < length hull → IsNext hull i v
+    → e < length es → HoldsAt (λ x. Joins x (slice_index hull i) v) es e → AreFlagsUpto hull es (i + 1) (set flags e true)
+flags-more hull es i flags v e up are i_in next e_in joins =
+    let many = are.as_many in
+    record {
+      as_many = omega (arith, length-set flags e true, many);
+      only = λ f f_in is_set. ⊎_elim
+          (λ (same : f ≡ e).
+          let here : HoldsAt (IsHullEdge hull) es e = λ d. hull-edge hull (slice_index_or es e d) (slice_index hull i) v (joins d) (pair_of_place hull (slice_index hull i) v i i_in refl next) in
+          subst (HoldsAt (IsHullEdge hull) es) (sym same) here)
+          (λ (other : f ≢ e). are.only f f_in (sym (get_or-set_other flags e f true false other) ∙ is_set))
+          (cases_eq f e);
+      each = λ k u w k_in at_k follows f f_in ends. ⊎_elim
+          (λ (same : f ≡ e). ap (λ x. slice_index_or (set flags e true) x false) same ∙ get_or-set_same flags e true false (omega arith))
+          (λ (other : f ≢ e). ⊎_elim
+          (λ (low : k < i). get_or-set_other flags e f true false other ∙ are.each k u w low at_k follows f f_in ends)
+          (λ (high : i ≤ k).
+          let k_is : k ≡ i = omega arith in
+          let u_is : u ≡ slice_index hull i = sym at_k ∙ ap (slice_index hull) k_is in
+          let w_is : w ≡ v = next-once hull i w v (subst (λ (x : ℕ). IsNext hull x w) k_is follows) next in
+          let ends_f : HoldsAt (λ x. Joins x (slice_index hull i) v) es f = subst (λ (x : ℕ). HoldsAt (λ y. Joins y x v) es f) u_is (subst (λ (x : ℕ). HoldsAt (λ y. Joins y u x) es f) w_is ends) in
+          absurd (other (joins-once es (slice_index hull i) v f e up f_in e_in ends_f joins)))
+          (cases_lt k i))
+          (cases_eq f e);
+    }
+  where
+    next-once : (h : List ℕ) (k x y : ℕ) → IsNext h k x → IsNext h k y → x ≡ y
+    next-once h k x y a b =
+        ⊎_elim
+        (λ p. ⊎_elim (λ q. sym p.1 ∙ q.1) (λ q. absurd (omega (arith, p.0, q.0))) b)
+        (λ p. ⊎_elim (λ q. absurd (omega (arith, p.0, q.0))) (λ q. sym p.1 ∙ q.1) b)
+        a
+
+pub flags-all : (hull : List ℕ) (es : List Edge) (i : ℕ) (flags : List Bool) → AreFlagsUpto hull es i flags → length hull ≤ i → AreHullFlags hull es flags
+flags-all hull es i flags are all =
+    record {
+      as_many = are.as_many;
+      each = λ e e_in d.
+          let edge = slice_index_or es e d in (
+            λ is_set. are.only e e_in is_set d,
+            λ h. ⊎_elim
+                (λ pair. let (k, k_in, at_k, next) = place_of_pair hull edge.a edge.b pair in are.each k edge.a edge.b (omega arith) at_k next e e_in (at-ends edge.a edge.b e d e_in (Joins-ends edge)))
+                (λ pair. let (k, k_in, at_k, next) = place_of_pair hull edge.b edge.a pair in are.each k edge.b edge.a (omega arith) at_k next e e_in (at-ends edge.b edge.a e d e_in (Joins-comm edge edge.a edge.b (Joins-ends edge))))
+                h,
+          );
+    }
+  where
+    at-ends : (u v : ℕ) (e : ℕ) (d : Edge) → e < length es → Joins (slice_index_or es e d) u v → HoldsAt (λ x. Joins x u v) es e
+    at-ends u v e d e_in joins = λ x. subst (λ (y : Edge). Joins y u v) (get_or_default es e d x e_in) joins

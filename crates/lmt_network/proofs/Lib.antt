@@ -1,0 +1,16 @@
+pub mod Builds
+pub mod Filters
+pub mod Finds
+pub mod FlipMinimal
+pub mod HullFlags
+pub mod Laws
+pub mod MinimalPairs
+pub mod Naming
+pub mod Passes
+pub mod Picked
+pub mod Rows
+pub mod Segments
+pub mod Settling
+pub mod SideKeys
+pub mod Starts
+pub mod Tallies

@@ -1,0 +1,118 @@
+-- Locally minimal pairs, by the points of their quadrilateral.
+use Rattle.std.proofs.Common.{◌≡◌, ◌⊎◌, ◌↔◌, ℕ, ◌<◌, ◌≤◌, Bool, true, false, List, length, IsTrue, sym, ◌∙◌, subst, ⊎_elim, inl, inr, arith, pos, ◌<ℤ◌}
+use Rattle.std.proofs.lemmas.Bool.{false≢true}
+use Rattle.exact_predicates.specs.declared.edge.Edge.{Edge}
+use Rattle.exact_predicates.specs.declared.point.Point.{Point}
+use Rattle.exact_predicates.specs.declared.tri.Tri.{Tri}
+use Rattle.exact_predicates.specs.Plane.{orient, d2, Crosses}
+use Rattle.exact_predicates.specs.PointSet.{point_at}
+use Rattle.exact_predicates.specs.Triangulation.{HasCorners, IsEmpty}
+use Rattle.exact_predicates.specs.Flip.{IsMinimalBetween}
+use Rattle.exact_predicates.proofs.Orientation.{orient_turned}
+use Rattle.lmt_network.specs.Network.{NetworkParts, edge_at, tri_at}
+use Rattle.lmt_network.specs.Numbers.{HasSide, IsMinimalPair}
+
+-- the third corner of a triangle on a side is one
+pub corner-once : (t : Tri) (u v w x : ℕ) → HasCorners t u v w → HasCorners t u v x → w ≡ x
+corner-once t u v w x h k =
+    let ab = t.below_b in let ac = t.below_c in let bc = t.apart in
+    ⊎_elim
+    (λ f. ⊎_elim (λ g. sym f.2 ∙ g.2) (λ o. ⊎_elim (λ g. absurd (omega (arith, f.0, g.0))) (λ g. absurd (omega (arith, f.0, g.0))) o) k)
+    (λ m. ⊎_elim
+    (λ f. ⊎_elim (λ g. absurd (omega (arith, f.0, g.0))) (λ o. ⊎_elim (λ g. sym f.2 ∙ g.2) (λ g. absurd (bc (f.0 ∙ sym g.0))) o) k)
+    (λ f. ⊎_elim (λ g. absurd (omega (arith, f.0, g.0))) (λ o. ⊎_elim (λ g. absurd (bc (g.0 ∙ sym f.0))) (λ g. sym f.2 ∙ g.2) o) k)
+    m)
+    h
+
+-- the corners of an empty triangle from any of them on
+pub turned-empty : (ps : List Point) (t : Tri) (u v w : ℕ) → IsEmpty ps t → HasCorners t u v w
+    → (w < length ps) × (pos 0 <ℤ orient (point_at ps u) (point_at ps v) (point_at ps w))
+turned-empty ps t u v w h k =
+    let P : ℕ → ℕ → ℕ → Type 0 = λ x y z. (z < length ps) × (pos 0 <ℤ orient (point_at ps x) (point_at ps y) (point_at ps z)) in
+    let a = point_at ps t.a in let b = point_at ps t.b in let c = point_at ps t.c in
+    ⊎_elim
+    (λ e. subst (λ (x : ℕ). P x v w) e.0 (subst (λ (y : ℕ). P t.a y w) e.1 (subst (λ (z : ℕ). P t.a t.b z) e.2 (h.c_in, h.turns_left))))
+    (λ m. ⊎_elim
+    (λ e. subst (λ (x : ℕ). P x v w) e.0 (subst (λ (y : ℕ). P t.b y w) e.1 (subst (λ (z : ℕ). P t.b t.c z) e.2 (h.a_in, rw (orient_turned a b c) h.turns_left))))
+    (λ e. subst (λ (x : ℕ). P x v w) e.0 (subst (λ (y : ℕ). P t.c y w) e.1 (subst (λ (z : ℕ). P t.c t.a z) e.2 (h.b_in, rw (orient_turned b c a, orient_turned a b c) h.turns_left))))
+    m)
+    k
+
+-- The points of a pair: of the edge and of the two apexes.
+pub record IsPairOf (n : NetworkParts) (e l r : ℕ) (edge : Edge) (left right : Tri) (a b : ℕ) : Type 0 where
+  pub edge_is : edge ≡ edge_at n e
+  pub left_is : left ≡ tri_at n l
+  pub right_is : right ≡ tri_at n r
+  pub l_in : l < length n.tris
+  pub r_in : r < length n.tris
+  pub a_is : HasCorners left edge.a edge.b a
+  pub b_is : HasCorners right edge.b edge.a b
+
+-- a pair is minimal exactly where it is between its apexes
+pub pair-is : (n : NetworkParts) (e l r : ℕ) (edge : Edge) (left right : Tri) (a b : ℕ) → IsPairOf n e l r edge left right a b
+    → IsMinimalBetween n.points edge.a edge.b a b ↔ IsMinimalPair n e l r
+pair-is n e l r edge left right a b h =
+    let a_is : HasCorners (tri_at n l) (edge_at n e).a (edge_at n e).b a =
+    subst (λ (t : Tri). HasCorners t (edge_at n e).a (edge_at n e).b a) h.left_is (subst (λ (x : Edge). HasCorners left x.a x.b a) h.edge_is h.a_is) in
+    let b_is : HasCorners (tri_at n r) (edge_at n e).b (edge_at n e).a b =
+    subst (λ (t : Tri). HasCorners t (edge_at n e).b (edge_at n e).a b) h.right_is (subst (λ (x : Edge). HasCorners right x.b x.a b) h.edge_is h.b_is) in (
+      λ minimal. record {
+        l_in = h.l_in;
+        r_in = h.r_in;
+        a = a;
+        b = b;
+        left_is = a_is;
+        right_is = b_is;
+        minimal = subst (λ (x : Edge). IsMinimalBetween n.points x.a x.b a b) h.edge_is minimal;
+      },
+      λ pair.
+          let same_a = corner-once (tri_at n l) (edge_at n e).a (edge_at n e).b pair.a a pair.left_is a_is in
+          let same_b = corner-once (tri_at n r) (edge_at n e).b (edge_at n e).a pair.b b pair.right_is b_is in
+          subst (λ (x : Edge). IsMinimalBetween n.points x.a x.b a b) (sym h.edge_is)
+          (subst (λ (x : ℕ). IsMinimalBetween n.points (edge_at n e).a (edge_at n e).b x b) same_a
+          (subst (λ (y : ℕ). IsMinimalBetween n.points (edge_at n e).a (edge_at n e).b pair.a y) same_b pair.minimal)),
+    )
+
+-- the two tests, over points
+abbrev Minimal : Point → Point → Point → Point → Type 0
+Minimal p q x y = (¬ Crosses p q x y) ⊎ (d2 p q ≤ d2 x y)
+
+same-points : {p q x y p' q' x' y' : Point} → p ≡ p' → q ≡ q' → x ≡ x' → y ≡ y' → Minimal p q x y → Minimal p' q' x' y'
+same-points {p} {q} {x} {y} {p'} {q'} {x'} {y'} ep eq ex ey m =
+    subst (λ (z : Point). Minimal z q' x' y') ep
+    (subst (λ (z : Point). Minimal p z x' y') eq
+    (subst (λ (z : Point). Minimal p q z y') ex
+    (subst (λ (z : Point). Minimal p q x z) ey m)))
+
+-- the points of an edge and of the two apexes
+pub record HasPoints (ps : List Point) (u v a b : ℕ) (p q x y : Point) : Type 0 where
+  pub p_is : p ≡ point_at ps u
+  pub q_is : q ≡ point_at ps v
+  pub x_is : x ≡ point_at ps a
+  pub y_is : y ≡ point_at ps b
+
+-- where the first test fails the pair is minimal
+pub unconvex-minimal : (n : NetworkParts) (e l r : ℕ) (edge : Edge) (left right : Tri) (a b : ℕ) (p q x y : Point) (convex : Bool) → IsPairOf n e l r edge left right a b
+    → HasPoints n.points edge.a edge.b a b p q x y → (IsTrue convex ↔ Crosses p q x y) → convex ≡ false → IsMinimalPair n e l r
+unconvex-minimal n e l r edge left right a b p q x y convex pair at h flat =
+    (pair-is n e l r edge left right a b pair).0
+    (same-points at.p_is at.q_is at.x_is at.y_is (inl (λ crosses. absurd (false≢true (sym flat ∙ h.1 crosses)))))
+
+-- else the second one tells
+pub convex-minimal : (n : NetworkParts) (e l r : ℕ) (edge : Edge) (left right : Tri) (a b : ℕ) (p q x y : Point) (convex : Bool) → IsPairOf n e l r edge left right a b
+    → HasPoints n.points edge.a edge.b a b p q x y → (IsTrue convex ↔ Crosses p q x y) → convex ≡ true → (d2 p q ≤ d2 x y) ↔ IsMinimalPair n e l r
+convex-minimal n e l r edge left right a b p q x y convex pair at h bent =
+    let is = pair-is n e l r edge left right a b pair in (
+      λ low. is.0 (same-points at.p_is at.q_is at.x_is at.y_is (inr low)),
+      λ minimal. ⊎_elim (λ none. absurd (none (h.0 bent))) (λ low. low)
+          (same-points (sym at.p_is) (sym at.q_is) (sym at.x_is) (sym at.y_is) (is.1 minimal)),
+    )
+
+-- a triangle's side by equal values
+pub side-left : (n : NetworkParts) (e l : ℕ) (edge : Edge) (t : Tri) → edge ≡ edge_at n e → t ≡ tri_at n l → HasSide (tri_at n l) (edge_at n e).a (edge_at n e).b → HasSide t edge.a edge.b
+side-left n e l edge t edge_is t_is h =
+    subst (λ (x : Edge). HasSide t x.a x.b) (sym edge_is) (subst (λ (x : Tri). HasSide x (edge_at n e).a (edge_at n e).b) (sym t_is) h)
+
+pub side-right : (n : NetworkParts) (e r : ℕ) (edge : Edge) (t : Tri) → edge ≡ edge_at n e → t ≡ tri_at n r → HasSide (tri_at n r) (edge_at n e).b (edge_at n e).a → HasSide t edge.b edge.a
+side-right n e r edge t edge_is t_is h =
+    subst (λ (x : Edge). HasSide t x.b x.a) (sym edge_is) (subst (λ (x : Tri). HasSide x (edge_at n e).b (edge_at n e).a) (sym t_is) h)

@@ -1,0 +1,14 @@
+//! The network of candidate edges and empty triangles, and the plain elimination that leaves the
+//! live edges. The definitions of support, closed list and live list stand in `specs/`.
+#![tactic(auto)]
+
+mod flags;
+mod flip_laws;
+mod network;
+mod settle;
+mod tables;
+
+pub use flags::Flags;
+pub use flip_laws::flip_minimal_laws;
+pub use network::Network;
+pub use settle::plain_settle;
