@@ -38,8 +38,10 @@ pub fn position_of_power(text: &[u8]) -> Option<usize>
 // What stands before a place, or all where there is none, and what stands behind it.
 pub fn cut_at(text: &[u8], place: Option<usize>) -> (&[u8], &[u8])
     requires { ForSome place (λ n. n < length text.now) }
-    ensures before { (p : ℕ → Bool) → place ≡ position p text.now → result.0.now ≡ before_first p text.now }
-    ensures behind { (p : ℕ → Bool) → place ≡ position p text.now → result.1.now ≡ after_first p text.now }
+    ensures before { (p : ℕ → Bool) → place ≡ position p text.now →
+        result.0.now ≡ before_first p text.now }
+    ensures behind { (p : ℕ → Bool) → place ≡ position p text.now →
+        result.1.now ≡ after_first p text.now }
     ensures len { length result.0.now ≤ length text.now }
     ensures rest { length result.1.now ≤ length text.now - 1 }
 {

@@ -32,8 +32,9 @@ impl Reading {
         requires places_in { self.places < 2 ^ 33 }
         requires right_in { self.right ≤ 2 ^ 40 }
         requires left_in { self.left ≤ 2 ^ 40 }
-        ensures { (r : Real) → IsRead self.negative self.digits.head self.digits.zeros self.places self.right self.left r
-            → MatchOption result (is_whole 6 r ≡ false) (λ d. Keeps d.negative d.unit d.size r) }
+        ensures { (r : Real) →
+            IsRead self.negative self.digits.head self.digits.zeros self.places self.right self.left r →
+            MatchOption result (is_whole 6 r ≡ false) (λ d. Keeps d.negative d.unit d.size r) }
     {
         let head = self.digits.head;
         let up = self.digits.zeros + self.right;

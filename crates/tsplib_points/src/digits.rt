@@ -44,7 +44,8 @@ impl Digits {
     fn push(&mut self, b: u8)
         requires digit { is_digit b ≡ true }
         requires room { self.old.zeros < 2 ^ 63 }
-        ensures value { (n : ℕ) → Holds self.old.head self.old.zeros n → Holds self.new.head self.new.zeros (10 * n + (b - 48)) }
+        ensures value { (n : ℕ) → Holds self.old.head self.old.zeros n →
+            Holds self.new.head self.new.zeros (10 * n + (b - 48)) }
         ensures zeros { self.new.zeros ≤ self.old.zeros + 1 }
     {
         if b != b'0' {
@@ -59,8 +60,9 @@ impl Digits {
     pub fn push_all(&mut self, text: &[u8]) -> bool
         requires { self.old.zeros + length text.now < 2 ^ 63 }
         ensures digits { result ≡ list_all is_digit text.now }
-        ensures value { result ≡ true → (front : List ℕ) → Holds self.old.head self.old.zeros (number front)
-            → Holds self.new.head self.new.zeros (number (front ++ text.now)) }
+        ensures value { result ≡ true → (front : List ℕ) →
+            Holds self.old.head self.old.zeros (number front) →
+            Holds self.new.head self.new.zeros (number (front ++ text.now)) }
         ensures zeros { self.new.zeros ≤ self.old.zeros + length text.now }
     {
         for b in text {

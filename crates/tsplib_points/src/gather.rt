@@ -113,7 +113,8 @@ impl Pass {
 pub fn gather(alloc: Global, bytes: &[u8]) -> Result<Gathered, FileStop>
     requires { length bytes.now < 2 ^ 32 }
     ensures found { IfOk result (λ found. IsGathered bytes.now found) }
-    ensures fails { IfErr result (λ stop. (why : refusal_type) → stop ≡ FileStop.Refused why → first_failing [] (lines bytes.now) ≡ Some why) }
+    ensures fails { IfErr result (λ stop. (why : refusal_type) → stop ≡ FileStop.Refused why →
+        first_failing [] (lines bytes.now) ≡ Some why) }
 {
     let mut pass = Pass::new(alloc);
     let mut lines = Lines::of(bytes);

@@ -130,7 +130,8 @@ impl<'a> Parts<'a> {
     // Goes over an entry that is no `DIMENSION`.
     #[tactic(auto, unfolding(crate::specs::Header::entry_reason))]
     fn entry(&self) -> Result<(), Reason>
-        ensures { MatchResult result (λ _. entry_reason self.now ≡ None) (λ why. entry_reason self.now ≡ Some why) }
+        ensures { MatchResult result (λ _. entry_reason self.now ≡ None)
+            (λ why. entry_reason self.now ≡ Some why) }
     {
         if self.is_passed_over() {
             Ok(())
@@ -148,7 +149,8 @@ impl<'a> Parts<'a> {
     /// What the line tells, or why it fails, where it is known whether a `DIMENSION` came before.
     #[tactic(auto, unfolding(crate::specs::Header::header_reason))]
     pub fn told(&self, has_dimension: bool) -> Result<Told, Reason>
-        ensures told { MatchResult result (λ told. Tells told self.now) (λ why. header_reason has_dimension self.now ≡ Some why) }
+        ensures told { MatchResult result (λ told. Tells told self.now)
+            (λ why. header_reason has_dimension self.now ≡ Some why) }
         ensures fine { IfOk result (λ _. header_reason has_dimension self.now ≡ None) }
     {
         if self.is_end_mark() {

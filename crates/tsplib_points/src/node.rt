@@ -1,10 +1,9 @@
 // Node lines.
-ghost use Rattle.std.specs.Prelude.{◌≡◌, ◌<◌, ◌^◌, ℕ, List, Some, length, IsSomeAnd, MatchResult};
-ghost use Rattle.tsplib_points.specs.Lines.{Line};
+ghost use Rattle.std.specs.Prelude.{◌<◌, ◌^◌, length};
 ghost use Rattle.tsplib_points.specs.Numbers.{small_number};
 ghost use Rattle.tsplib_points.specs.Real.{real_of};
-ghost use Rattle.tsplib_points.specs.Nodes.{Node, node_of, node_from, node_reason};
-ghost use Rattle.tsplib_points.specs.Gathering.{KeepsNode};
+ghost use Rattle.tsplib_points.specs.Nodes.{node_of, node_from};
+ghost use Rattle.tsplib_points.specs.Gathering.{ReadsNode};
 
 use crate::decimal::Decimal;
 use crate::lines::Words;
@@ -25,8 +24,7 @@ pub struct KeptNode {
 fn fields(line: u32, number: &[u8], x: &[u8], y: &[u8]) -> Result<KeptNode, Reason>
     requires x_in { length x.now < 2 ^ 32 }
     requires y_in { length y.now < 2 ^ 32 }
-    ensures { let o = node_from line (small_number number.now) (real_of x.now) (real_of y.now) in
-        MatchResult result (λ kept. IsSomeAnd o (KeepsNode kept)) (λ why. (before : List Node) → node_reason before o ≡ Some why) }
+    ensures { ReadsNode result (node_from line (small_number number.now) (real_of x.now) (real_of y.now)) }
 {
     let Some(number) = small_number(number) else {
         return Err(Reason::CoordLine);
@@ -49,8 +47,7 @@ fn fields(line: u32, number: &[u8], x: &[u8], y: &[u8]) -> Result<KeptNode, Reas
 /// Reads a node line: three words, a number and two reals that are whole at 10^6.
 pub fn node(line: u32, text: &[u8]) -> Result<KeptNode, Reason>
     requires { length text.now < 2 ^ 32 }
-    ensures { let o = node_of (record { number = line; text = text.now }) in
-        MatchResult result (λ kept. IsSomeAnd o (KeepsNode kept)) (λ why. (before : List Node) → node_reason before o ≡ Some why) }
+    ensures { ReadsNode result (node_of (record { number = line; text = text.now })) }
 {
     let mut words = Words::of(text);
     let Some(number) = words.next() else {

@@ -44,7 +44,8 @@ fn unsigned(text: &[u8]) -> &[u8]
 fn decimal(text: &[u8]) -> Option<(Digits, u64)>
     requires { length text.now < 2 ^ 32 }
     ensures form { MatchOption result (is_decimal text.now ≡ false) (λ _. is_decimal text.now ≡ true) }
-    ensures digits { IfSome result (λ p. Holds p.0.head p.0.zeros (number (whole_part text.now ++ fraction text.now))) }
+    ensures digits { IfSome result (λ p.
+        Holds p.0.head p.0.zeros (number (whole_part text.now ++ fraction text.now))) }
     ensures zeros { IfSome result (λ p. p.0.zeros < 2 ^ 33) }
     ensures places { IfSome result (λ p. p.1 ≡ length (fraction text.now)) }
 {
@@ -64,9 +65,12 @@ fn decimal(text: &[u8]) -> Option<(Digits, u64)>
 #[tactic(auto, unfolding(crate::specs::Real::is_exponent))]
 fn exponent(is_there: bool, text: &[u8]) -> Option<(u64, u64)>
     requires { is_there ≡ false → text.now ≡ [] }
-    ensures form { MatchOption result (is_exponent is_there text.now ≡ false) (λ _. is_exponent is_there text.now ≡ true) }
-    ensures right { IfSome result (λ p. p.0 ≡ min (if is_negative text.now then 0 else number (unsigned text.now)) (2 ^ 40)) }
-    ensures left { IfSome result (λ p. p.1 ≡ min (if is_negative text.now then number (unsigned text.now) else 0) (2 ^ 40)) }
+    ensures form { MatchOption result (is_exponent is_there text.now ≡ false)
+        (λ _. is_exponent is_there text.now ≡ true) }
+    ensures right { IfSome result (λ p.
+        p.0 ≡ min (if is_negative text.now then 0 else number (unsigned text.now)) (2 ^ 40)) }
+    ensures left { IfSome result (λ p.
+        p.1 ≡ min (if is_negative text.now then number (unsigned text.now) else 0) (2 ^ 40)) }
 {
     if !is_there {
         return Some((0, 0));
@@ -82,7 +86,8 @@ fn exponent(is_there: bool, text: &[u8]) -> Option<(u64, u64)>
 fn reading(text: &[u8]) -> Option<Reading>
     requires { length text.now < 2 ^ 32 }
     ensures form { MatchOption result (is_real text.now ≡ false) (λ _. is_real text.now ≡ true) }
-    ensures read { IfSome result (λ r. IsRead r.negative r.digits.head r.digits.zeros r.places r.right r.left (real_in text.now)) }
+    ensures read { IfSome result (λ r.
+        IsRead r.negative r.digits.head r.digits.zeros r.places r.right r.left (real_in text.now)) }
     ensures zeros { IfSome result (λ r. r.digits.zeros < 2 ^ 33) }
     ensures places { IfSome result (λ r. r.places < 2 ^ 33) }
     ensures right { IfSome result (λ r. r.right ≤ 2 ^ 40) }
