@@ -1,7 +1,7 @@
 -- A pass over the edges that drops those without a support.
-use Rattle.std.proofs.Common.{◌≡◌, ◌≢◌, ◌⊎◌, ℕ, ◌+◌, ◌-◌, ◌<◌, ◌≤◌, Bool, true, false, cond, List, length, get_or, set, slice_index_or, All, Contains, count_by, refl, ap, sym, ◌∙◌, subst, arith, below_more}
+use Rattle.std.proofs.Common.{◌≡◌, ◌≢◌, ◌⊎◌, ℕ, ◌+◌, ◌-◌, ◌<◌, ◌≤◌, Bool, true, false, cond, List, length, get_or, set, slice_index_or, replicate, All, Contains, count_by, refl, ap, sym, ◌∙◌, subst, arith, below_more}
 use Rattle.std.proofs.lemmas.Bool.{false≢true}
-use Rattle.std.proofs.lemmas.List.{length-set, get_or-set_other}
+use Rattle.std.proofs.lemmas.List.{length-set, get_or-set_other, get_or-replicate}
 use Rattle.std.proofs.lemmas.List.Elements.{All-contains}
 use Rattle.std.proofs.lemmas.List.Sums.{sum_by-set}
 use Rattle.lmt_network.specs.Network.{NetworkParts}
@@ -89,3 +89,11 @@ pass-quiet n before flags downwards i p all =
     let before_i = t.0 in
     let P : ℕ → Type 0 = λ x. slice_index_or flags x false ≡ true → IsHullNumber n x ⊎ IsSupported n (live_numbers flags) x in
     (e_in, subst P t.1 (p.kept refl (in_turn (length n.edges) e downwards) (omega arith)) flag))
+
+-- where all edges are live no closed one is lost
+pub none-lost-all : (n : NetworkParts) (flags : List Bool) → flags ≡ replicate (length n.edges) true → NoneLost n flags
+none-lost-all n flags is es closed =
+    all-from-members (Contains (live_numbers flags)) es
+    (λ e has.
+    let e_in = (All-contains (λ x. (x < length n.edges) × (IsHullNumber n x ⊎ IsSupported n es x)) es e closed has).0 in
+    live-from_flag flags e (ap (λ (fs : List Bool). get_or fs e false) is ∙ get_or-replicate (length n.edges) e true false e_in))
