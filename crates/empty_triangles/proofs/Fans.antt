@@ -1,5 +1,5 @@
 -- The fan of a point's later points: which of them make an empty triangle with the point and a given one of them.
-use Rattle.std.proofs.Common.{◌≡◌, ◌≢◌, ◌⊎◌, ℕ, ◌+◌, ◌-◌, ◌<◌, ◌≤◌, min, max, ℤ, pos, ◌≤ℤ◌, ◌<ℤ◌, List, [], ◌∷◌, ◌++◌, length, get_or, slice_index, All, Contains, arith, refl, sym, ap, ◌∙◌, subst, inl, inr, ⊎_elim, length-append}
+use Rattle.std.proofs.Common.{◌≡◌, ◌≢◌, ◌⊎◌, ℕ, ◌+◌, ◌-◌, ◌<◌, ◌≤◌, ℤ, pos, ◌≤ℤ◌, ◌<ℤ◌, List, [], ◌∷◌, ◌++◌, length, slice_index, All, Contains, arith, sym, ap, ◌∙◌, subst, inl, inr, ⊎_elim, length-append}
 use Rattle.std.proofs.lemmas.Bool.{cases_lt, cases_order, cases_eq}
 use Rattle.std.proofs.lemmas.Int.{ints, by_lt_z}
 use Rattle.std.proofs.lemmas.List.{get_or_default, get_or_push}
@@ -7,7 +7,7 @@ use Rattle.std.proofs.lemmas.List.Elements.{All-push, Contains-push, Contains-ap
 use Rattle.std.proofs.lemmas.List.Sorted.{All-permutation, Contains-permutation}
 use Rattle.std.specs.List.Sorted.{IsPermutation}
 use Rattle.exact_predicates.specs.declared.point.Point.{Point}
-use Rattle.exact_predicates.specs.Plane.{orient, IsBetween, IsInClosedTriangle}
+use Rattle.exact_predicates.specs.Plane.{orient, IsInClosedTriangle}
 use Rattle.exact_predicates.specs.PointSet.{IsPointSet, point_at}
 use Rattle.exact_predicates.proofs.Between.{IsBetween-from_order}
 use Rattle.exact_predicates.proofs.HalfPlane.{left_turn_strict}
@@ -19,7 +19,7 @@ use Rattle.point_grid.proofs.Rays.{apart, follows}
 use Rattle.empty_triangles.specs.Enumeration.{IsBare, AreThirds}
 
 -- two of three points are one
-flat_last : (p q : Point) → orient p q q ≡ pos 0
+pub flat_last : (p q : Point) → orient p q q ≡ pos 0
 flat_last p q = omega (arith, ints, orient_swapped_last p q q)
 
 flat_first : (p q : Point) → orient p q p ≡ pos 0
@@ -105,7 +105,7 @@ module _ (ps : List Point) (a : ℕ) (order : List ℕ) (v : IsPointSet ps) (a_i
           (λ t. omega (arith, ints, orient_turned (point k) (point j) A, orient_turned A (point k) (point j), orient_swapped_last A (point j) (point k)))
           (λ t. let on = t.0 in
           let far = orient-same_line_right A (point j) (point j) (point k) (point i) (o.rising a _ nj.0 nj.1) (o.rising _ _ t.1 nk.1) (flat_last A (point j)) on
-              (omega (arith, ints, orient_swapped_last A (point i) (point j))) in
+          (omega (arith, ints, orient_swapped_last A (point i) (point j))) in
           omega (arith, ints, orient_turned (point i) (point j) (point k)))
           (follows ps a order v a_in d j k m k_in))
           beside)
@@ -184,9 +184,9 @@ module _ (ps : List Point) (a : ℕ) (order : List ℕ) (v : IsPointSet ps) (a_i
         led = λ k l m e. (
           omega (arith, length-append cs (c ∷ [])),
           rw last (⊎_elim
-          (λ (n : k < j). let t : pos 0 <ℤ orient B (P k) (P j) = turned k l n e in omega (arith, ints, orient_swapped_last B (P k) (P j)))
-          (λ (n : j ≤ k). let same : j ≡ k = omega arith in subst (λ (x : ℕ). orient B (P j) (P x) ≤ℤ pos 0) same (omega (arith, ints, flat_last B (P j))))
-          (cases_lt k j)),
+              (λ (n : k < j). let t : pos 0 <ℤ orient B (P k) (P j) = turned k l n e in omega (arith, ints, orient_swapped_last B (P k) (P j)))
+              (λ (n : j ≤ k). let same : j ≡ k = omega arith in subst (λ (x : ℕ). orient B (P j) (P x) ≤ℤ pos 0) same (omega (arith, ints, flat_last B (P j))))
+              (cases_lt k j)),
         );
         leader = λ l. (j, up, omega arith, sym last);
       }
@@ -209,7 +209,7 @@ module _ (ps : List Point) (a : ℕ) (order : List ℕ) (v : IsPointSet ps) (a_i
   -- the point at j is none
   pub IsFan-skip : (j : ℕ) (cs : List ℕ) → i < j → j < length order → IsFan ps a order i j cs
       → (pos 0 <ℤ orient (point_at ps a) (point_at ps (slice_index order i)) (point_at ps (slice_index order j))
-          → (0 < length cs) × (orient (point_at ps (slice_index order i)) (point_at ps (slice_index cs (length cs - 1))) (point_at ps (slice_index order j)) ≤ℤ pos 0))
+      → (0 < length cs) × (orient (point_at ps (slice_index order i)) (point_at ps (slice_index cs (length cs - 1))) (point_at ps (slice_index order j)) ≤ℤ pos 0))
       → IsFan ps a order i (j + 1) cs
   IsFan-skip j cs up j_in h behind = record {
     each = h.each;

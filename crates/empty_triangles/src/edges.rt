@@ -1,5 +1,5 @@
 // Reading an ascending list of edges.
-ghost use Rattle.std.specs.Prelude.{◌≡◌, ◌≢◌, ◌<◌, ◌↔◌, IsTrue, AllPairs, IfOk};
+ghost use Rattle.std.specs.Prelude.{◌≡◌, ◌≢◌, ◌<◌, ◌≤◌, ◌↔◌, ℕ, IsTrue, length, slice_index, AllPairs, Contains, IfOk};
 ghost use Rattle.exact_predicates.specs.Candidates.{EdgePrecedes, HasEdge};
 ghost use Rattle.empty_triangles.specs.Enumeration.{is_edge_before, IsPlaceOf, IsRow};
 
@@ -39,4 +39,12 @@ fn place_of(edges: &[Edge], a: u32, b: u32) -> usize
             ensures { result ≡ is_edge_before a b e.now }
         { e.a < a || (e.a == a && e.b < b) },
     )
+}
+
+/// Whether a number is in an ascending list.
+pub(crate) fn has_number(numbers: &[u32], number: u32) -> bool
+    requires { (j k : ℕ) → j ≤ k → k < length numbers.now → slice_index numbers.now j ≤ slice_index numbers.now k }
+    ensures { IsTrue result ↔ Contains numbers.now number }
+{
+    numbers.binary_search(&number).is_ok()
 }

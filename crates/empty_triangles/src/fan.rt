@@ -1,5 +1,5 @@
 // The empty triangles with two given corners.
-ghost use Rattle.std.specs.Prelude.{◌≡◌, ◌-◌, ◌<◌, ◌≤◌, ◌↔◌, ℕ, pos, ◌<ℤ◌, IsTrue, All, length, slice_index, IfOk};
+ghost use Rattle.std.specs.Prelude.{◌≡◌, ◌-◌, ◌<◌, ◌≤◌, ◌↔◌, ℕ, pos, ◌<ℤ◌, IsTrue, All, Contains, length, slice_index, IfOk};
 ghost use Rattle.exact_predicates.specs.Plane.{orient};
 ghost use Rattle.exact_predicates.specs.PointSet.{IsPointSet, point_at};
 ghost use Rattle.point_grid.specs.Directions.{AreByDirection};
@@ -10,14 +10,47 @@ use mwt_base::NoMemory;
 use point_grid::{is_first_on_ray, is_left};
 use std::alloc::Global;
 
-/// The third corners of the empty triangles that turn to the left, whose first corner is `a` and
-/// whose second stands at the place `i` of the order in which `a` sees the points after it. They
-/// ascend.
-///
-/// The later directions are gone through once. A point in the triangle of `a`, the second corner and
-/// a later point comes between the two in direction, and is turned to the left of the later point,
-/// seen from the second corner: so it suffices to know the point that is turned farthest.
+/// The third corners of the empty triangles that turn to the left, whose first two corners are `a`
+/// and `b`, ascending. `order` has the points after `a` as `a` sees them.
 pub(crate) fn thirds(
+    alloc: Global,
+    points: &Points,
+    a: u32,
+    order: &[u32],
+    b: u32,
+) -> Result<Vec<u32>, NoMemory>
+    requires points { IsPointSet points.now.points }
+    requires a_in { a < length points.now.points }
+    requires order { AreByDirection points.now.points a order.now }
+    requires a_b { a < b }
+    requires b_in { b < length points.now.points }
+    ensures are { IfOk result (λ cs. AreThirds points.now.points a b cs.items) }
+    ensures ascending { IfOk result (λ cs. (j k : ℕ) → j ≤ k → k < length cs.items →
+        slice_index cs.items j ≤ slice_index cs.items k) }
+{
+    thirds_at(alloc, points, a, order, place_in(order, b))
+}
+
+// The place of a number in a list that has it.
+fn place_in(numbers: &[u32], number: u32) -> usize
+    requires { Contains numbers.now number }
+    ensures within { result < length numbers.now }
+    ensures is { slice_index numbers.now result ≡ number }
+{
+    for (i, other) in numbers.iter().enumerate() {
+        if *other == number {
+            return i;
+        }
+    }
+    unreachable!()
+}
+
+// The same for the second corner at the place `i` of the order.
+//
+// The later directions are gone through once. A point in the triangle of `a`, the second corner and
+// a later point comes between the two in direction, and is turned to the left of the later point,
+// seen from the second corner: so it suffices to know the point that is turned farthest.
+fn thirds_at(
     alloc: Global,
     points: &Points,
     a: u32,

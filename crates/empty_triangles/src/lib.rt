@@ -5,7 +5,6 @@ mod edges;
 mod fan;
 mod rows;
 mod stop;
-mod test;
 
 pub use rows::triangles;
 pub use stop::TriStop;

@@ -4,4 +4,4 @@ use Rattle.empty_triangles.proofs.rows.add_row.Given as goal
 
 abbrev pub invariant-loop-i : goal.invariant-loop-i
 invariant-loop-i l =
-    (AreTrianglesWith l.points.points l.edges (IsBefore l.a l.row l.i 0) l.tris.items) × (vec_len l.tris ≤ 4000000)
+    (AreTrianglesWith l.points.points l.edges (IsBefore l.corner.a l.corner.row.items l.i 0) l.tris.items) × (vec_len l.tris ≤ 4000000)
