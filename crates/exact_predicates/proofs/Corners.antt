@@ -1,5 +1,5 @@
 -- The corners of a triangle in any turn: what does not depend on which of them comes first.
-use Rattle.std.proofs.Common.{◌≡◌, ℕ, ◌<◌, List, length, pos, ◌<ℤ◌, subst, ⊎_elim, ◌⊎◌, inl, inr}
+use Rattle.std.proofs.Common.{◌≡◌, ◌≢◌, ℕ, ◌<◌, List, length, arith, pos, ◌<ℤ◌, sym, ◌∙◌, subst, ⊎_elim, ◌⊎◌, inl, inr}
 use Rattle.exact_predicates.specs.declared.point.Point.{Point}
 use Rattle.exact_predicates.specs.declared.tri.Tri.{Tri}
 use Rattle.exact_predicates.specs.Plane.{orient, IsInClosedTriangle}
@@ -70,3 +70,11 @@ pub IsEmpty-corners : (ps : List Point) (t : Tri) (u v w : ℕ) → HasCorners t
 IsEmpty-corners ps t u v w c h =
     let own = from_corners (IsBare ps) (IsBare-turned ps) t u v w c h in
     record { a_in = own.u_in; b_in = own.v_in; c_in = own.w_in; turns_left = own.turns_left; bare = own.bare }
+
+-- two corners of a triangle differ
+pub corners_differ : (t : Tri) (u v w : ℕ) → HasCorners t u v w → u ≢ v
+corners_differ t u v w h e =
+    ⊎_elim
+    (λ k. absurd (omega (arith, k.0, k.1, t.below_b)))
+    (λ m. ⊎_elim (λ k. t.apart (k.0 ∙ (e ∙ sym k.1))) (λ k. absurd (omega (arith, k.0, k.1, t.below_c))) m)
+    h

@@ -14,7 +14,7 @@ use Rattle.exact_predicates.specs.Plane.{orient, AreApart}
 use Rattle.exact_predicates.specs.PointSet.{point_at}
 use Rattle.exact_predicates.specs.Root.{root_up, root_down}
 use Rattle.exact_predicates.specs.Triangulation.{IsCorner, IsEmpty, HasCorners, IsTriangulation, edges}
-use Rattle.exact_predicates.proofs.Corners.{IsOneOf, IsBare, IsBare-corners, IsEmpty-corners, corner_among, corner_from}
+use Rattle.exact_predicates.proofs.Corners.{IsOneOf, corners_differ, IsBare, IsBare-corners, IsEmpty-corners, corner_among, corner_from}
 use Rattle.exact_predicates.proofs.FlipSums.{AreInner, AreInner-old, AreInner-new, IsBalanced-flip, length-flip, sum_by-edges-flip}
 use Rattle.exact_predicates.proofs.Orientation.{d2_comm}
 use Rattle.exact_predicates.proofs.Quadrilaterals.{IsQuad-convex, IsQuad-turned, IsBare-flip}
@@ -88,14 +88,7 @@ IsTriangulation-flip ps hull old new u v a b h t f s =
       corners = λ x x_in. corners-flip old new u v a b x f (t.corners x x_in);
     }
 
-corners_differ : (t : Tri) (u v w : ℕ) → HasCorners t u v w → u ≢ v
-corners_differ t u v w h e =
-    ⊎_elim
-    (λ k. absurd (omega (arith, k.0, k.1, t.below_b)))
-    (λ m. ⊎_elim (λ k. t.apart (k.0 ∙ (e ∙ sym k.1))) (λ k. absurd (omega (arith, k.0, k.1, t.below_c))) m)
-    h
-
-apart_differ : (p q : Point) (f : ℕ → Point) (a b : ℕ) → AreApart p q (f a) (f b) → a ≢ b
+pub apart_differ : (p q : Point) (f : ℕ → Point) (a b : ℕ) → AreApart p q (f a) (f b) → a ≢ b
 apart_differ p q f a b h e =
     let same = ap (λ x. orient p q (f x)) e in
     ⊎_elim (λ k. let x = k.0 in let y = k.1 in omega (arith, ints)) (λ k. let x = k.0 in let y = k.1 in omega (arith, ints)) h

@@ -1,0 +1,117 @@
+// The mesh, and the flip of one edge.
+ghost use Rattle.std.specs.Prelude.{◌≡◌, ◌↔◌, ◌<◌, ℕ, List, All, IsTrue, IfOk, IsPermutation, IsSorted, length, slice_get, Some, sum_by};
+ghost use Rattle.exact_predicates.specs.Hull.{IsHull};
+ghost use Rattle.exact_predicates.specs.Triangulation.{IsTriangulation, tri_cmp};
+
+use crate::across::Across;
+use crate::build::{attached, slots_of};
+use crate::face::{Face, tris_of};
+use crate::slot::Slot;
+use exact_predicates::{Edge, Hull, Points, Tris, crosses, d2};
+use mwt_base::NoMemory;
+use std::alloc::Global;
+use std::marker::Model;
+
+/// The triangles of a triangulation, in any order, with a slot for each edge.
+/// After a flip the new triangles and the new edge stand where the old ones stood.
+#[derive(Drop)]
+pub struct Mesh {
+    faces: Vec<Face>,
+    slots: Vec<Slot>,
+}
+
+impl Model for Mesh {
+    ghost use Rattle.flip_finish.specs.Mesh.{Parts};
+
+    ghost Value = { Parts };
+
+    ghost use Rattle.flip_finish.specs.Face.{Fits, face_tris};
+
+    ghost view = { λ m. record { tris = face_tris m.faces.items; slots = m.slots.items } };
+
+    ghost invariant = { λ m. Fits m.faces.items m.slots.items };
+}
+
+impl Mesh {
+    ghost use Rattle.flip_finish.specs.Flipping.{IsFlipped, IsShortened, Shortens, slot_d2};
+    ghost use Rattle.flip_finish.specs.Mesh.{AreItsEdges, IsMeshOf, IsWhole, IsWithin, slot_edges};
+
+    /// The mesh of a triangulation. Its triangles are in the order of the list, its slots in ascending
+    /// order of their edges. For n points it takes time n log n. `NoMemory` is the only error.
+    pub fn from_tris(
+        alloc: Global,
+        points: &Points,
+        hull: &Hull,
+        tris: &Tris,
+    ) -> Result<Mesh, NoMemory>
+        requires hull { IsHull points.now.points hull.now }
+        requires tris { IsTriangulation points.now.points hull.now tris.now }
+        ensures same { IfOk result (λ mesh. mesh.tris ≡ tris.now) }
+        ensures edges { IfOk result (λ mesh. AreItsEdges hull.now mesh) }
+        ensures mesh { IfOk result (λ mesh. IsMeshOf points.now.points hull.now mesh) }
+        ensures within { IfOk result (λ mesh. All (IsWithin points.now.points) mesh.tris) }
+    {
+        let most = 2 * points.len();
+        prove!(tris.len() < most);
+        let slots = slots_of(alloc, hull.as_slice(), tris.as_slice())?;
+        let faces = attached(alloc, tris.as_slice(), &slots)?;
+        Ok(Mesh { faces, slots })
+    }
+
+    /// How many slots there are.
+    pub fn slots(&self) -> u32
+        ensures value { result ≡ length self.now.slots }
+        ensures whole { IsWhole self.now }
+    {
+        self.slots.len() as u32
+    }
+
+    /// The edge of a slot.
+    pub fn edge(&self, slot: u32) -> Edge
+        requires { slot < length self.now.slots }
+        ensures { slice_get (slot_edges self.now.slots) slot ≡ Some result }
+    {
+        self.slots[slot as usize].edge
+    }
+
+    /// Whether a flip of the slot's edge makes it strictly shorter: it has triangles on both sides,
+    /// their quadrilateral is strictly convex, and the other diagonal is the shorter one. Exact, in
+    /// constant time.
+    pub fn shortens(&self, points: &Points, slot: u32) -> bool
+        requires in_slots { slot < length self.now.slots }
+        requires within { All (IsWithin points.now.points) self.now.tris }
+        ensures { IsTrue result ↔ Shortens points.now.points self.now slot }
+    {
+        let Some(Across { left, right, .. }) = Across::of(&self.faces, &self.slots, slot) else {
+            return false;
+        };
+        let (u, v) = (points.at(left.u), points.at(left.v));
+        let (a, b) = (points.at(left.w), points.at(right.w));
+        crosses(u, v, a, b) && d2(a, b) < d2(u, v)
+    }
+
+    /// Flips the slot's edge `uv`, which that shortens: the slot's edge becomes `ab`, and the two
+    /// triangles become those on `ab`. All else stays. In constant time.
+    pub fn flip(&mut self, points: &Points, slot: u32)
+        requires shortens { Shortens points.now.points self.old slot }
+        ensures flipped { IsFlipped points.now.points self.old self.new slot }
+        ensures whole { IsWhole self.new }
+        ensures shortened { IsShortened points.now.points self.old self.new }
+        ensures falls { sum_by (slot_d2 points.now.points) self.new.slots < sum_by (slot_d2 points.now.points) self.old.slots }
+    {
+        let Some(across) = Across::of(&self.faces, &self.slots, slot) else {
+            unreachable!()
+        };
+        across.flip(&mut self.faces, &mut self.slots);
+    }
+
+    /// The triangles in ascending order. `NoMemory` is the only error.
+    pub fn tris(&self, alloc: Global) -> Result<Tris, NoMemory>
+        ensures same { IfOk result (λ tris. IsPermutation self.now.tris tris) }
+        ensures ascending { IfOk result (λ tris. IsSorted tri_cmp tris) }
+    {
+        let mut tris = tris_of(alloc, &self.faces)?;
+        tris.sort_unstable();
+        Ok(Tris::of(tris))
+    }
+}
