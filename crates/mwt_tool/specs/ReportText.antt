@@ -1,11 +1,12 @@
 -- The text of a report: lines in a fixed order, each with one spelling. It is a draft, whose first line says version 0:
 -- the lines of what is not built yet are not there.
-use Rattle.std.specs.Prelude.{ℕ, pos, List, ◌++◌, length, flat_map, codes, decimal}
+use Rattle.std.specs.Prelude.{ℕ, pos, List, ◌++◌, length, flat_map, codes, decimal, if◌then◌else◌}
 use Rattle.std.specs.Fmt.{signed_decimal}
 use Rattle.mwt_base.specs.Line.{line}
 use Rattle.exact_predicates.specs.declared.point.Point.{Point}
 use Rattle.exact_predicates.specs.declared.tri.Tri.{Tri}
 use Rattle.length_enclosure.specs.Amount.{amount}
+use Rattle.mwt_tool.specs.declared.report.LiveLine.{LiveLine}
 use Rattle.mwt_tool.specs.declared.report.Report.{Report}
 
 -- a word and a number
@@ -19,6 +20,10 @@ point_line p = line (decimal p.id ++ codes " " ++ signed_decimal p.x ++ codes " 
 -- a point of the hull: its number
 abbrev pub hull_line : ℕ → List ℕ
 hull_line u = line (decimal u)
+
+-- a live edge: the numbers of its ends, and h where it is an edge of the hull, else i
+abbrev pub live_line : LiveLine → List ℕ
+live_line l = line (decimal l.edge.a ++ codes " " ++ decimal l.edge.b ++ (if l.hull then codes " h" else codes " i"))
 
 -- a triangle: the numbers of its corners
 abbrev pub triangle_line : Tri → List ℕ
@@ -40,12 +45,14 @@ head_lines r =
 
 -- the lines behind the blocks
 abbrev pub end_lines : Report → List ℕ
-end_lines r = line (codes "method sweep") ++ length_line r.lo r.hi ++ line (codes "end")
+end_lines r = line (codes "method flips") ++ length_line r.lo r.hi ++ line (codes "end")
 
 unfoldable pub report_text : Report → List ℕ
 report_text r =
     head_lines r
     ++ block (codes "points") point_line r.points
     ++ block (codes "hull") hull_line r.hull
+    ++ number_line (codes "candidates") r.candidates
+    ++ block (codes "live") live_line r.live
     ++ block (codes "triangles") triangle_line r.tris
     ++ end_lines r

@@ -3,8 +3,10 @@
 #![tactic(auto)]
 
 mod answer;
+mod elimination;
 mod refusal;
 mod report;
+mod shortening;
 mod solve;
 #[cfg(test)]
 mod tests;

@@ -16,7 +16,7 @@ use std::thread::Threads;
 /// What it means to write for its words and its input is stated in `specs/Intends.antt`, a row for
 /// each refusal and each mode. All memory is taken before the first write.
 pub fn run<S: Source, K: Sink, G: Gate, R: Threads + Sync>(
-    _rt: &R,
+    rt: &R,
     alloc: Global,
     words: &[String],
     source: &mut S,
@@ -52,7 +52,7 @@ pub fn run<S: Source, K: Sink, G: Gate, R: Threads + Sync>(
         ¬ Rose (S.faults source.old) (S.faults source.new) → ¬ Rose (K.faults sink.old) (K.faults sink.new) →
         (result ≡ Status.Done) ⊎ (result ≡ Status.NoMemory) }
 {
-    match decide(alloc, words, source) {
+    match decide(rt, alloc, words, source) {
         Ok(answer) => match write_whole(sink, &answer.text) {
             Ok(()) => answer.status,
             Err(_) => Status::WriteFault,

@@ -1,8 +1,8 @@
 // The text of a report.
 ghost use Rattle.std.specs.Prelude.{◌≡◌, ◌^◌, ◌≤◌, ◌++◌, codes, IfOk, OnOk};
-ghost use Rattle.mwt_tool.specs.ReportText.{block, end_lines, head_lines, hull_line, length_line, number_line, point_line, report_text, triangle_line};
+ghost use Rattle.mwt_tool.specs.ReportText.{block, end_lines, head_lines, hull_line, length_line, live_line, number_line, point_line, report_text, triangle_line};
 
-use crate::report::Report;
+use crate::report::{LiveLine, LiveLines, Report};
 use crate::text::Text;
 use exact_predicates::{Hull, Point, PointList, Tri, Tris};
 use mwt_base::NoMemory;
@@ -19,6 +19,8 @@ pub fn write_report(alloc: Global, report: &Report) -> Result<Vec<u8>, NoMemory>
     write_head(&mut text, report)?;
     write_points(&mut text, &report.points)?;
     write_hull(&mut text, &report.hull)?;
+    write_number(&mut text, "candidates", report.candidates)?;
+    write_live(&mut text, &report.live)?;
     write_triangles(&mut text, &report.tris)?;
     write_end(&mut text, report)?;
     Ok(text.into_bytes())
@@ -81,6 +83,26 @@ fn write_hull_point(text: &mut Text, point: u32) -> Result<(), NoMemory>
     text.word("\n")
 }
 
+fn write_live(text: &mut Text, live: &LiveLines) -> Result<(), NoMemory>
+    ensures { OnOk result (text.new ≡ text.old ++ block (codes "live") live_line live.now) }
+{
+    write_number(text, "live", live.len())?;
+    for line in live.as_slice() {
+        write_live_edge(text, line)?;
+    }
+    Ok(())
+}
+
+fn write_live_edge(text: &mut Text, line: &LiveLine) -> Result<(), NoMemory>
+    ensures { OnOk result (text.new ≡ text.old ++ live_line line.now) }
+{
+    text.number(line.edge.a)?;
+    text.word(" ")?;
+    text.number(line.edge.b)?;
+    text.word(if line.hull { " h" } else { " i" })?;
+    text.word("\n")
+}
+
 fn write_triangles(text: &mut Text, tris: &Tris) -> Result<(), NoMemory>
     ensures { OnOk result (text.new ≡ text.old ++ block (codes "triangles") triangle_line tris.now) }
 {
@@ -107,9 +129,10 @@ fn write_end(text: &mut Text, report: &Report) -> Result<(), NoMemory>
     requires hi { report.now.hi ≤ 10 ^ 25 }
     ensures { OnOk result (text.new ≡ text.old ++ end_lines report.now) }
 {
-    text.word("method sweep\n")?;
+    text.word("method flips\n")?;
     write_length(text, report.lo, report.hi)?;
-    text.word("end\n")
+    text.word("end\n")?;
+    Ok(())
 }
 
 fn write_length(text: &mut Text, lo: u128, hi: u128) -> Result<(), NoMemory>

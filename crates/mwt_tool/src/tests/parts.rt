@@ -1,8 +1,15 @@
 // Single calls of the libraries below.
 
+use crate::shortening::shortened;
 use crate::tests::{list_of, points_of};
-use exact_predicates::{Edge, Point, PointList, Points, PointsStop, d2, orient};
-use length_enclosure::{is_square, root_floor, weight, write_units};
+use exact_predicates::{
+    Edge, Point, PointList, Points, PointsStop, Tri, crosses, d2, in_closed_triangle,
+    in_left_diamond, orient, strictly_between, strictly_convex,
+};
+use hull_sweep::sweep;
+use length_enclosure::{enclosure, is_square, root_floor, weight, write_units};
+use point_grid::Grid;
+use std::alloc::Global;
 use std::test::Fail;
 
 #[test]
@@ -99,5 +106,103 @@ fn roots_and_tests(rt: HostRuntime) -> Result<(), Fail> {
     assert_eq!(rt; orient(p, q, r), -12);
     assert_eq!(rt; orient(p, r, q), 12);
     assert_eq!(rt; d2(q, r), 25);
+    Ok(())
+}
+
+// The tests on three and four points, at the edges of their answers.
+#[test]
+fn relations_of_points(rt: HostRuntime) -> Result<(), Fail> {
+    let [o, e, n, m, c] = [(0, 0), (4, 0), (0, 4), (2, 0), (1, 1)].map(|(x, y)| Point {
+        id: 1,
+        x,
+        y,
+    });
+    assert!(rt; strictly_between(&o, &e, &m));
+    assert!(rt; !strictly_between(&o, &m, &e));
+    assert!(rt; !strictly_between(&o, &e, &o));
+    assert!(rt; !strictly_between(&o, &e, &c));
+    assert!(rt; orient(&o, &e, &n) > 0);
+    for (r, inside) in [(&c, true), (&m, true), (&o, true)] {
+        assert_eq!(rt; in_closed_triangle(&o, &e, &n, r), inside);
+    }
+    assert!(rt; orient(&o, &m, &n) > 0);
+    assert!(rt; !in_closed_triangle(&o, &m, &n, &e));
+    let far = Point { id: 1, x: 4, y: 4 };
+    assert!(rt; crosses(&o, &far, &e, &n));
+    assert!(rt; crosses(&n, &e, &far, &o));
+    assert!(rt; !crosses(&o, &c, &e, &n));
+    assert!(rt; !crosses(&o, &e, &m, &n));
+    assert!(rt; orient(&e, &n, &far) < 0);
+    assert!(rt; orient(&n, &e, &far) > 0);
+    assert!(rt; orient(&e, &n, &o) > 0);
+    assert!(rt; strictly_convex(&n, &e, &far, &o));
+    // The apex and the base of a diamond are not in it, and what is below the apex is.
+    let end = Point { id: 1, x: 10, y: 0 };
+    for (x, y, inside) in [
+        (5, 4, false),
+        (5, 3, true),
+        (5, 0, false),
+        (5, -3, false),
+        (1, 1, false),
+    ] {
+        assert_eq!(rt; in_left_diamond(&o, &end, &Point { id: 1, x, y }), inside);
+    }
+    Ok(())
+}
+
+// The least point in a segment, a triangle and a diamond.
+#[test]
+fn queries_of_a_grid(rt: HostRuntime) -> Result<(), Fail> {
+    let alloc = rt.alloc();
+    let points = points_of(alloc, &[(0, 0), (4, 0), (4, 4), (0, 4), (2, 2)])?;
+    let grid = Grid::new(alloc, &points).map_err(|_| Fail::from("no memory"))?;
+    assert_eq!(rt; points.len(), 5);
+    assert_eq!(rt; grid.any_between(&points, 0, 4), Some(2));
+    assert_eq!(rt; grid.any_between(&points, 4, 0), Some(2));
+    assert_eq!(rt; grid.any_between(&points, 0, 2), None);
+    let half = Tri { a: 0, b: 3, c: 4 };
+    assert!(rt; orient(points.at(0), points.at(3), points.at(4)) > 0);
+    assert_eq!(rt; grid.any_in_closed_triangle(&points, half), Some(2));
+    let points = points_of(alloc, &[(0, 0), (5, 1), (10, 0), (5, -1)])?;
+    let grid = Grid::new(alloc, &points).map_err(|_| Fail::from("no memory"))?;
+    assert_eq!(rt; points.len(), 4);
+    assert_eq!(rt; grid.any_in_diamond(&points, 0, 3), Some(2));
+    assert_eq!(rt; grid.any_in_diamond(&points, 3, 0), Some(1));
+    assert_eq!(rt; grid.any_in_diamond(&points, 0, 1), None);
+    Ok(())
+}
+
+// Made points: the steps of a generator of numbers modulo 2^31 - 1.
+fn made_points(alloc: Global, count: u32) -> Result<Points, Fail> {
+    let mut places = Vec::new(alloc);
+    let mut state = 7i64;
+    for _ in 0..count {
+        state = state.saturating_mul(48_271) % 2_147_483_647;
+        let x = state % 1_000_000;
+        state = state.saturating_mul(48_271) % 2_147_483_647;
+        places.push((x, state % 1_000_000))?;
+    }
+    points_of(alloc, &places)
+}
+
+// The triangulation of many points stays one by its numbers, and gets shorter.
+#[test]
+fn shortening_of_made_points(rt: HostRuntime) -> Result<(), Fail> {
+    let alloc = rt.alloc();
+    for count in [10, 300, 10_000] {
+        let points = made_points(alloc, count)?;
+        let start = sweep(alloc, &points).map_err(|_| Fail::from("no memory"))?;
+        let before = enclosure(&points, &start.hull, &start.tris);
+        let tris = shortened(alloc, &points, &start.hull, &start.tris).map_err(|_| Fail::from(
+            "no memory",
+        ))?;
+        let after = enclosure(&points, &start.hull, &tris);
+        assert_eq!(rt; tris.len(), start.tris.len());
+        assert!(rt; after.hi < before.lo, "{count}");
+        let again = shortened(alloc, &points, &start.hull, &tris).map_err(|_| Fail::from(
+            "no memory",
+        ))?;
+        assert!(rt; again.as_slice() == tris.as_slice());
+    }
     Ok(())
 }

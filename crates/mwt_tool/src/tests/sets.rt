@@ -1,11 +1,12 @@
 // Sets of points whose hull and triangulation are tried against the definitions, by a plain program.
 
+use crate::shortening::shortened;
 use crate::tests::points_of;
 use exact_predicates::{Point, Points, Tri};
 use hull_sweep::sweep;
 use std::test::Fail;
 
-fn at(points: &Points, number: u32) -> Option<&Point> {
+pub fn at(points: &Points, number: u32) -> Option<&Point> {
     if number < points.len() {
         Some(points.at(number))
     } else {
@@ -24,8 +25,8 @@ fn is_outermost(points: &Points, u: u32, v: u32) -> bool {
     })
 }
 
-// The orientation, where all is in range.
-fn in_order(p: &Point, q: &Point, r: &Point) -> i128 {
+/// The orientation, where all is in range.
+pub fn in_order(p: &Point, q: &Point, r: &Point) -> i128 {
     let width = i128::from(q.x).saturating_sub(i128::from(p.x));
     let height = i128::from(q.y).saturating_sub(i128::from(p.y));
     let right = i128::from(r.x).saturating_sub(i128::from(p.x));
@@ -35,8 +36,8 @@ fn in_order(p: &Point, q: &Point, r: &Point) -> i128 {
         .saturating_sub(height.saturating_mul(right))
 }
 
-// Whether r is neither p nor q, and within the box that they span.
-fn is_inside_box(p: &Point, q: &Point, r: &Point) -> bool {
+/// Whether r is neither p nor q, and within the box that they span.
+pub fn is_inside_box(p: &Point, q: &Point, r: &Point) -> bool {
     let across = p.x.min(q.x) <= r.x && r.x <= p.x.max(q.x);
     let upright = p.y.min(q.y) <= r.y && r.y <= p.y.max(q.y);
     let is_p = r.x == p.x && r.y == p.y;
@@ -66,7 +67,7 @@ fn side_count(tris: &[Tri], u: u32, v: u32) -> usize {
     tris.iter().filter(|tri| has_side(tri, u, v)).count()
 }
 
-fn is_pair(hull: &[u32], u: u32, v: u32) -> bool {
+pub fn is_pair(hull: &[u32], u: u32, v: u32) -> bool {
     let mut before = hull.last().copied();
     for number in hull {
         if before == Some(u) && *number == v {
@@ -114,46 +115,133 @@ fn is_triangulation(points: &Points, hull: &[u32], tris: &[Tri]) -> bool {
         && sides == (count as usize).saturating_mul(2)
 }
 
+/// The squared distance, where all is in range.
+pub fn squared(p: &Point, q: &Point) -> i128 {
+    let width = i128::from(q.x).saturating_sub(i128::from(p.x));
+    let height = i128::from(q.y).saturating_sub(i128::from(p.y));
+    width
+        .saturating_mul(width)
+        .saturating_add(height.saturating_mul(height))
+}
+
+/// Whether the edge uv is locally minimal between the triangles uva and vub: the quadrilateral is not
+/// strictly convex, or ab is not shorter.
+pub fn is_minimal_between(u: &Point, v: &Point, a: &Point, b: &Point) -> bool {
+    let one_side = in_order(u, v, a).signum() == in_order(u, v, b).signum();
+    let other_side = in_order(a, b, u).signum() == in_order(a, b, v).signum();
+    let flat = in_order(a, b, u) == 0 || in_order(a, b, v) == 0;
+    one_side || other_side || flat || squared(u, v) <= squared(a, b)
+}
+
+// The corner across from the side u to v.
+fn across(tri: &Tri, u: u32, v: u32) -> Option<u32> {
+    match (
+        tri.a == u && tri.b == v,
+        tri.b == u && tri.c == v,
+        tri.c == u && tri.a == v,
+    ) {
+        (true, _, _) => Some(tri.c),
+        (_, true, _) => Some(tri.a),
+        (_, _, true) => Some(tri.b),
+        _ => None,
+    }
+}
+
+// Whether some two triangles of the list are on the two sides of uv, which is locally minimal between
+// them.
+fn is_minimal_in(points: &Points, tris: &[Tri], u: u32, v: u32) -> bool {
+    let (Some(p), Some(q)) = (at(points, u), at(points, v)) else {
+        return false;
+    };
+    for left in tris {
+        for right in tris {
+            if let (Some(a), Some(b)) = (across(left, u, v), across(right, v, u)) {
+                if let (Some(r), Some(s)) = (at(points, a), at(points, b)) {
+                    if is_minimal_between(p, q, r, s) {
+                        return true;
+                    }
+                }
+            }
+        }
+    }
+    false
+}
+
+/// Whether no edge can be made shorter by a flip.
+pub fn is_flip_minimal(points: &Points, hull: &[u32], tris: &[Tri]) -> bool {
+    tris.iter().all(|tri| {
+        [(tri.a, tri.b), (tri.b, tri.c), (tri.c, tri.a)].iter().all(|(u, v)| is_pair(hull, *u, *v)
+            || is_minimal_in(points, tris, *u, *v))
+    })
+}
+
+/// Small sets of every shape: a line whose last point is off it to the left, and to the right; upright
+/// lines; a fan; points inside; points in convex position; a grid; quadrilaterals with diagonals that
+/// are equal, or of which the first that is tried is the longer; points of a regular shape and others.
+pub const SETS: [&[(i64, i64)]; 13] = [
+    &[(0, 0), (1, 1), (2, 2), (3, 3), (3, 4)],
+    &[(0, 0), (1, 1), (2, 2), (3, 3), (4, 3)],
+    &[(0, 0), (0, 1), (0, 2), (0, 3), (1, 0), (1, 1), (1, 2)],
+    &[(0, 0), (0, 5), (0, 9), (2, 4), (2, 5), (2, 6)],
+    &[(0, 0), (9, -4), (9, -2), (9, 0), (9, 2), (9, 4)],
+    &[
+        (0, 0),
+        (10, 0),
+        (0, 10),
+        (10, 10),
+        (3, 4),
+        (6, 5),
+        (5, 5),
+        (5, 1),
+    ],
+    &[(-3, 9), (-2, 4), (-1, 1), (0, 0), (1, 1), (2, 4), (3, 9)],
+    &[
+        (0, 0),
+        (1, 0),
+        (2, 0),
+        (0, 1),
+        (1, 1),
+        (2, 1),
+        (0, 2),
+        (1, 2),
+        (2, 2),
+    ],
+    &[(0, 0), (1, 0), (1, 1), (0, 1)],
+    &[(0, 0), (4, -5), (4, 5), (8, 0)],
+    &[(0, 0), (2, -2), (7, -3), (10, 0), (5, 1)],
+    &[(0, -1), (0, 1), (1, -4), (1, 4), (20, 0)],
+    &[
+        (0, 0),
+        (6, 4),
+        (6, 9),
+        (6, 30),
+        (12, 0),
+        (3, 7),
+        (9, 11),
+        (5, 20),
+    ],
+];
+
 #[test]
 fn sets_of_every_shape(rt: HostRuntime) -> Result<(), Fail> {
     let alloc = rt.alloc();
-    // A line whose last point is off it to the left, and to the right; upright lines; a fan; points
-    // inside; points in convex position; a grid.
-    let sets: [&[(i64, i64)]; 8] = [
-        &[(0, 0), (1, 1), (2, 2), (3, 3), (3, 4)],
-        &[(0, 0), (1, 1), (2, 2), (3, 3), (4, 3)],
-        &[(0, 0), (0, 1), (0, 2), (0, 3), (1, 0), (1, 1), (1, 2)],
-        &[(0, 0), (0, 5), (0, 9), (2, 4), (2, 5), (2, 6)],
-        &[(0, 0), (9, -4), (9, -2), (9, 0), (9, 2), (9, 4)],
-        &[
-            (0, 0),
-            (10, 0),
-            (0, 10),
-            (10, 10),
-            (3, 4),
-            (6, 5),
-            (5, 5),
-            (5, 1),
-        ],
-        &[(-3, 9), (-2, 4), (-1, 1), (0, 0), (1, 1), (2, 4), (3, 9)],
-        &[
-            (0, 0),
-            (1, 0),
-            (2, 0),
-            (0, 1),
-            (1, 1),
-            (2, 1),
-            (0, 2),
-            (1, 2),
-            (2, 2),
-        ],
-    ];
-    for places in sets {
+    for places in SETS {
         let points = points_of(alloc, places)?;
         let start = sweep(alloc, &points).map_err(|_| Fail::from("no memory"))?;
-        let (hull, tris) = (start.hull.as_slice(), start.tris.as_slice());
+        let (hull, first) = (start.hull.as_slice(), start.tris.as_slice());
         assert!(rt; is_hull(&points, hull), "{places:?}");
-        assert!(rt; is_triangulation(&points, hull, tris), "{places:?}");
+        assert!(rt; is_triangulation(&points, hull, first), "{places:?}");
+        let tris = shortened(alloc, &points, &start.hull, &start.tris).map_err(|_| Fail::from(
+            "no memory",
+        ))?;
+        assert!(rt;
+            is_triangulation(&points, hull, tris.as_slice()),
+            "{places:?}"
+        );
+        assert!(rt;
+            is_flip_minimal(&points, hull, tris.as_slice()),
+            "{places:?}"
+        );
     }
     Ok(())
 }

@@ -1,0 +1,156 @@
+// Candidate and live edges against a slow program straight from their definitions, over edges as pairs
+// of numbers: the greatest closed list is what is left of all candidates, where edges without a support
+// are taken out until none is left.
+
+use crate::elimination::{Elimination, SolveStop};
+use crate::tests::points_of;
+use crate::tests::sets::{SETS, at, in_order, is_inside_box, is_minimal_between, is_pair};
+use diamond_edges::{Diamond, candidates};
+use empty_triangles::{TriStop, triangles};
+use exact_predicates::Points;
+use hull_sweep::sweep;
+use point_grid::Grid;
+use std::alloc::Global;
+use std::test::Fail;
+
+type Ends = (u32, u32);
+
+// Whether no point is between the points u and v.
+fn is_clear(points: &Points, u: u32, v: u32) -> bool {
+    let (Some(p), Some(q)) = (at(points, u), at(points, v)) else {
+        return false;
+    };
+    points
+        .as_slice()
+        .iter()
+        .all(|r| in_order(p, q, r) != 0 || !is_inside_box(p, q, r))
+}
+
+fn all_candidates(alloc: Global, points: &Points) -> Result<Vec<Ends>, Fail> {
+    let mut all = Vec::new(alloc);
+    for u in 0..points.len() {
+        for v in 0..points.len() {
+            if u < v && is_clear(points, u, v) {
+                all.push((u, v))?;
+            }
+        }
+    }
+    Ok(all)
+}
+
+fn has(edges: &[Ends], u: u32, v: u32) -> bool {
+    edges.contains(&(u.min(v), u.max(v)))
+}
+
+// Whether uva is an empty triangle, counter-clockwise, with all its sides among the edges.
+fn is_over(points: &Points, edges: &[Ends], u: u32, v: u32, a: u32) -> bool {
+    let (Some(p), Some(q), Some(r)) = (at(points, u), at(points, v), at(points, a)) else {
+        return false;
+    };
+    let held = points
+        .as_slice()
+        .iter()
+        .filter(|s| in_order(p, q, s) >= 0 && in_order(q, r, s) >= 0 && in_order(r, p, s) >= 0)
+        .count();
+    in_order(p, q, r) > 0 && held == 3 && has(edges, u, v) && has(edges, v, a) && has(edges, a, u)
+}
+
+fn has_support(points: &Points, edges: &[Ends], u: u32, v: u32) -> bool {
+    let (Some(p), Some(q)) = (at(points, u), at(points, v)) else {
+        return false;
+    };
+    for a in 0..points.len() {
+        for b in 0..points.len() {
+            if is_over(points, edges, u, v, a) && is_over(points, edges, v, u, b) {
+                if let (Some(r), Some(s)) = (at(points, a), at(points, b)) {
+                    if is_minimal_between(p, q, r, s) {
+                        return true;
+                    }
+                }
+            }
+        }
+    }
+    false
+}
+
+fn greatest_closed(alloc: Global, points: &Points, hull: &[u32]) -> Result<Vec<Ends>, Fail> {
+    let mut live = all_candidates(alloc, points)?;
+    for _ in 0..live.len() {
+        let mut kept = Vec::new(alloc);
+        for (u, v) in &live {
+            let on_hull = is_pair(hull, *u, *v) || is_pair(hull, *v, *u);
+            if on_hull || has_support(points, &live, *u, *v) {
+                kept.push((*u, *v))?;
+            }
+        }
+        live = kept;
+    }
+    Ok(live)
+}
+
+#[test]
+fn greatest_closed_lists(rt: HostRuntime) -> Result<(), Fail> {
+    let alloc = rt.alloc();
+    for places in SETS {
+        let points = points_of(alloc, places)?;
+        let hull = sweep(alloc, &points)
+            .map_err(|_| Fail::from("no memory"))?
+            .hull;
+        let elimination = Elimination::of(&rt, alloc, &points, &hull).map_err(|_| Fail::from(
+            "stopped",
+        ))?;
+        let count = elimination.net.edges() as usize;
+        assert_eq!(rt; count, all_candidates(alloc, &points)?.len(), "{places:?}");
+        assert_eq!(rt; elimination.flags.len(), elimination.net.edges());
+        let lines = elimination
+            .live_lines(alloc)
+            .map_err(|_| Fail::from("no memory"))?;
+        let live = greatest_closed(alloc, &points, hull.as_slice())?;
+        assert_eq!(rt; lines.as_slice().len(), live.len(), "{places:?}");
+        for (line, (u, v)) in lines.as_slice().iter().zip(&live) {
+            assert_eq!(rt; (line.edge.a, line.edge.b), (*u, *v), "{places:?}");
+            let on_hull = is_pair(hull.as_slice(), *u, *v) || is_pair(hull.as_slice(), *v, *u);
+            assert_eq!(rt; line.hull, on_hull, "{places:?}");
+        }
+    }
+    Ok(())
+}
+
+// The first points of the parabola: all of them on the hull, and each triangle of them empty.
+fn parabola(alloc: Global, count: i64) -> Result<Points, Fail> {
+    let mut places = Vec::new(alloc);
+    for i in 0..count {
+        places.push((i, i.saturating_mul(i)))?;
+    }
+    points_of(alloc, &places)
+}
+
+// 289 of these points have no more empty triangles than the limit, 290 have more; 895 have more
+// candidate edges.
+#[test]
+fn limits_of_edges_and_triangles(rt: HostRuntime) -> Result<(), Fail> {
+    let alloc = rt.alloc();
+    for (count, edges, tris) in [(289, 41_616, Some(3_981_264)), (290, 41_905, None)] {
+        let points = parabola(alloc, count)?;
+        let hull = sweep(alloc, &points)
+            .map_err(|_| Fail::from("no memory"))?
+            .hull;
+        let grid = Grid::new(alloc, &points).map_err(|_| Fail::from("no memory"))?;
+        let listed = candidates(&rt, alloc, &points, &grid, &hull, Diamond::Off).map_err(
+            |_| Fail::from("stopped"),
+        )?;
+        assert_eq!(rt; listed.len(), edges);
+        match (triangles(&rt, alloc, &points, &grid, &listed), tris) {
+            (Ok(found), Some(wanted)) => assert_eq!(rt; found.len(), wanted),
+            (Err(stop), None) => assert_eq!(rt; stop, TriStop::Dense),
+            _ => return Err(Fail::from("another answer")),
+        }
+    }
+    let points = parabola(alloc, 895)?;
+    let hull = sweep(alloc, &points)
+        .map_err(|_| Fail::from("no memory"))?
+        .hull;
+    let stop = Elimination::of(&rt, alloc, &points, &hull).err();
+    assert_eq!(rt; stop, Some(SolveStop::DenseEdges));
+    Ok(())
+}
