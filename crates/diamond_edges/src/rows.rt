@@ -17,7 +17,8 @@ const MOST: usize = 400_000;
 /// test on, that pass it. They come in ascending order. `Dense` says that there are more than 400,000;
 /// the edges beyond are not enumerated then. For n points it takes time n^2 log n at most.
 ///
-/// The test is due to R. L. S. Drysdale, S. McElfresh and J. S. Snoeyink (2001).
+/// The test is due to R. L. S. Drysdale, S. McElfresh and J. S. Snoeyink (2001). It is not built yet;
+/// `grid` and `hull` are for it.
 pub fn candidates<R: Threads + Sync>(
     _rt: &R,
     alloc: Global,

@@ -18,7 +18,8 @@ const MOST: usize = 4_000_000;
 /// there are more than 4,000,000; those beyond are not enumerated then.
 ///
 /// For each point and each of its later neighbours the later points are gone through once, in the
-/// order of their directions, so that it takes time n^2 log n + n m for n points and m edges.
+/// order of their directions, so that it takes time n^2 log n + n m for n points and m edges. `grid`
+/// is not asked yet: it can serve points with few neighbours.
 pub fn triangles<R: Threads + Sync>(
     _rt: &R,
     alloc: Global,

@@ -1,3 +1,4 @@
+pub mod Ascending
 pub mod Barycentric
 pub mod Between
 pub mod Chains
