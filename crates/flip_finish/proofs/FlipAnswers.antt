@@ -10,11 +10,11 @@ use Rattle.flip_finish.specs.declared.face.Face.{Face}
 use Rattle.flip_finish.specs.declared.slot.Slot.{Slot}
 use Rattle.flip_finish.specs.Across.{IsAcross, IsExchanged}
 use Rattle.flip_finish.specs.Face.{Fits}
-use Rattle.flip_finish.specs.Flipping.{IsFlipped, IsShortened, slot_d2}
+use Rattle.flip_finish.specs.Flipping.{IsFlipped, IsLowered, IsShortened, slot_d2}
 use Rattle.flip_finish.specs.Mesh.{HasLeft, slot_edges}
 use Rattle.flip_finish.proofs.FlipSteps.{new_ab, new_ba, new_faces, new_slots}
 use Rattle.flip_finish.proofs.Flipped.{IsFlip-step, edges-step, falls-step, others-step}
-use Rattle.flip_finish.proofs.FlippedMeshes.{IsShortened-step, step}
+use Rattle.flip_finish.proofs.FlippedMeshes.{IsLowered-step, IsShortened-step, step}
 use Rattle.flip_finish.proofs.Fitting.{Fits-flip}
 use Rattle.flip_finish.proofs.Quads.{HasQuad-across, parts}
 
@@ -27,6 +27,7 @@ pub record IsDone (ps : List Point) (faces new : List Face) (slots after : List 
   pub fits : Fits new after
   pub flipped : IsFlipped ps (parts faces slots) (parts new after) slot
   pub shortened : IsShortened ps (parts faces slots) (parts new after)
+  pub lowered : IsLowered ps (parts faces slots) (parts new after)
   pub falls : sum_by (slot_d2 ps) after < sum_by (slot_d2 ps) slots
 
 pub done : (ps : List Point) (faces new : List Face) (slots after : List Slot) (slot : ℕ) (x : Across) → Fits faces slots → IsAcross faces slot x
@@ -58,5 +59,6 @@ done ps faces new slots after slot x fits h e short =
             (m.edge, m.left, m.right);
       };
       shortened = IsShortened-step ps s short;
+      lowered = IsLowered-step ps s short;
       falls = falls-step ps s short;
     }))

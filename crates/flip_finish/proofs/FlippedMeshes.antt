@@ -6,13 +6,13 @@ use Rattle.exact_predicates.specs.declared.edge.Edge.{Edge}
 use Rattle.exact_predicates.specs.declared.point.Point.{Point}
 use Rattle.exact_predicates.specs.Flip.{IsShortening}
 use Rattle.exact_predicates.specs.Hull.{IsHull, IsHullPair}
-use Rattle.exact_predicates.proofs.Flips.{IsNotLonger-flip, IsTriangulation-flip}
+use Rattle.exact_predicates.proofs.Flips.{IsNotLonger-flip, IsTriangulation-flip, sum_d2-flip}
 use Rattle.flip_finish.specs.declared.across.Across.{Across}
 use Rattle.flip_finish.specs.declared.face.Face.{Face}
 use Rattle.flip_finish.specs.declared.slot.Slot.{Slot}
 use Rattle.flip_finish.specs.Across.{IsAcross, IsExchanged}
 use Rattle.flip_finish.specs.Face.{Fits, HasSides, face_tris}
-use Rattle.flip_finish.specs.Flipping.{IsSameBut, IsShortened}
+use Rattle.flip_finish.specs.Flipping.{IsLowered, IsSameBut, IsShortened}
 use Rattle.flip_finish.specs.Mesh.{IsMeshOf, triangle_left}
 use Rattle.flip_finish.specs.Places.{IsAt}
 use Rattle.flip_finish.proofs.FlipSteps.{Step, new_ab, new_ba, new_faces, new_slots}
@@ -78,6 +78,10 @@ IsShortened-step ps s short =
       kept = λ hull h m. IsMeshOf-step ps hull s short h m;
       not_longer = λ hull h m. IsNotLonger-flip ps hull (face_tris s.faces) (face_tris (new_faces s)) s.u s.v s.a s.b h m.tris (IsFlip-step s) short;
     }
+
+pub IsLowered-step : (ps : List Point) (s : Step) → IsShortening ps s.u s.v s.a s.b → IsLowered ps (parts s.faces s.slots) (parts (new_faces s) (new_slots s))
+IsLowered-step ps s short = λ hull h m.
+    sum_d2-flip ps hull (face_tris s.faces) (face_tris (new_faces s)) s.u s.v s.a s.b h m.tris (IsFlip-step s) short
 
 -- what the code writes is a flip of faces and slots
 abbrev pub step : (faces new : List Face) (slots after : List Slot) (slot : ℕ) (x : Across) → Fits faces slots → IsAcross faces slot x

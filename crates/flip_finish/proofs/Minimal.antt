@@ -1,8 +1,8 @@
 -- A mesh in which no slot shortens is flip-minimal.
-use Rattle.std.proofs.Common.{◌≡◌, ℕ, ◌<◌, Bool, true, false, cond, List, [], ◌∷◌, length, get_or, All, filter, flat_map, Option, Some, None, arith, refl, ◌∙◌, subst, ⊎_elim, inl, inr}
+use Rattle.std.proofs.Common.{◌≡◌, ℕ, ◌<◌, Bool, true, false, cond, List, [], ◌∷◌, length, get_or, All, filter, Option, Some, None, arith, refl, ◌∙◌, subst, ⊎_elim, inl, inr}
 use Rattle.std.proofs.lemmas.Bool.{cases_lt}
 use Rattle.std.proofs.lemmas.List.{get_or_default}
-use Rattle.std.proofs.lemmas.List.Elements.{All-append, All-cons, All-head, All-tail}
+use Rattle.std.proofs.lemmas.List.Elements.{All-cons, All-head, All-tail}
 use Rattle.exact_predicates.specs.declared.point.Point.{Point}
 use Rattle.exact_predicates.specs.declared.tri.Tri.{Tri}
 use Rattle.exact_predicates.specs.Flip.{IsFlipMinimal, IsMinimalBetween, IsMinimalIn}
@@ -12,6 +12,7 @@ use Rattle.exact_predicates.specs.PointSet.{point_at}
 use Rattle.exact_predicates.specs.Triangulation.{HasCorners, is_inner, sides}
 use Rattle.exact_predicates.proofs.Equalities.{Joins-comm}
 use Rattle.exact_predicates.proofs.Pairs.{is_inner_decides}
+use Rattle.exact_predicates.proofs.Reordered.{All-pieces}
 use Rattle.flip_finish.specs.Flipping.{HasQuad, Shortens}
 use Rattle.flip_finish.specs.Mesh.{HasLeft, IsMeshOf, IsWhole, Parts}
 use Rattle.flip_finish.specs.Places.{IsAt}
@@ -25,11 +26,6 @@ All-filter_passing {X} p P (x ∷ xs) h = at (p x) refl (All-filter_passing p P 
     at : (b : Bool) → p x ≡ b → All P (filter p xs) → All P (cond b (x ∷ filter p xs) (filter p xs))
     at true e rest = All-cons P x (filter p xs) (All-head (λ y. p y ≡ true → P y) x xs h e) rest
     at false e rest = rest
-
-All-flat_map : {X Y : Type 0} (P : Y → Type 0) (f : X → List Y) (xs : List X) → All (λ x. All P (f x)) xs → All P (flat_map f xs)
-All-flat_map P f [] h = λ k d l. absurd (omega arith)
-All-flat_map P f (x ∷ xs) h =
-    All-append P (f x) (flat_map f xs) (All-head (λ y. All P (f y)) x xs h) (All-flat_map P f xs (All-tail (λ y. All P (f y)) x xs h))
 
 -- a slot that does not shorten is locally minimal
 minimal_quad : (ps : List Point) (m : Parts) (p u v a b : ℕ) → HasQuad m p u v a b → ¬ Shortens ps m p → IsMinimalBetween ps u v a b
@@ -88,12 +84,12 @@ pub IsFlipMinimal-still : (ps : List Point) (hull : List ℕ) (m : Parts) → Is
 IsFlipMinimal-still ps hull m whole of_hull still =
     let P : ℕ × ℕ → Type 0 = λ e. IsMinimalIn ps m.tris e.0 e.1 in
     let Q : ℕ × ℕ → Type 0 = λ e. is_inner hull e ≡ true → P e in
-    All-filter_passing (is_inner hull) P (flat_map sides m.tris)
-    (All-flat_map Q sides m.tris
+    All-pieces P (is_inner hull) sides m.tris
     (λ t d l.
     let tri = get_or m.tris t d in
     let here : IsAt m.tris t tri = record { inside = l; is = get_or_default m.tris t tri d l } in
     let side : (x y w : ℕ) → HasCorners tri x y w → Q (x, y) = λ x y w c. minimal_side ps hull m t tri x y w whole of_hull still here c in
-    All-cons Q (tri.a, tri.b) ((tri.b, tri.c) ∷ (tri.c, tri.a) ∷ []) (side tri.a tri.b tri.c (inl (refl, refl, refl)))
+    All-filter_passing (is_inner hull) P (sides tri)
+    (All-cons Q (tri.a, tri.b) ((tri.b, tri.c) ∷ (tri.c, tri.a) ∷ []) (side tri.a tri.b tri.c (inl (refl, refl, refl)))
     (All-cons Q (tri.b, tri.c) ((tri.c, tri.a) ∷ []) (side tri.b tri.c tri.a (inr (inl (refl, refl, refl))))
     (All-cons Q (tri.c, tri.a) [] (side tri.c tri.a tri.b (inr (inr (refl, refl, refl)))) (λ k e f. absurd (omega arith))))))

@@ -1,7 +1,7 @@
 -- Each of all sides is one of its triangle, or is the outer side of a pair of the hull.
 use Rattle.std.proofs.Common.{◌≡◌, ℕ, suc, ◌+◌, ◌*◌, ◌≤◌, List, [], ◌∷◌, length, get_or, map, All, Option, Some, None, arith, ap, sym, refl, subst, inl, inr}
 use Rattle.std.proofs.lemmas.List.{get_or_default, length-append, length-map}
-use Rattle.std.proofs.lemmas.List.Elements.{All-append, All-cons, All-filter}
+use Rattle.std.proofs.lemmas.List.Elements.{All-append, All-cons, All-filter, All-map}
 use Rattle.std.proofs.lemmas.List.Sorted.{All-permutation}
 use Rattle.std.proofs.lemmas.Option.{none-some, same_Some}
 use Rattle.std.specs.List.Sorted.{IsPermutation}
@@ -19,12 +19,7 @@ pub record IsSound (hull : List ℕ) (tris : List Tri) (s : (ℕ × ℕ) × Opti
   pub inner : (t : ℕ) → s.1 ≡ Some t → (tri : Tri) × (w : ℕ) × IsAt tris t tri × HasCorners tri s.0.0 s.0.1 w
   pub outer : s.1 ≡ None → IsHullPair hull s.0.1 s.0.0
 
--- a fact on each image
-pub All-map_of : {X Y : Type 0} (P : Y → Type 0) (f : X → Y) (xs : List X) → All (λ x. P (f x)) xs → All P (map f xs)
-All-map_of P f [] h = λ k d l. absurd (omega arith)
-All-map_of P f (x ∷ xs) h = All-cons P (f x) (map f xs) (h 0 x (omega arith)) (All-map_of P f xs (λ k d l. h (suc k) d (omega arith)))
-
--- and back
+-- a fact on each image is one on each element
 pub All-map_back : {X Y : Type 0} (P : Y → Type 0) (f : X → Y) (xs : List X) → All P (map f xs) → All (λ x. P (f x)) xs
 All-map_back P f [] h = λ k d l. absurd (omega arith)
 All-map_back P f (x ∷ xs) h = All-cons (λ y. P (f y)) x xs (h 0 (f x) (omega arith)) (All-map_back P f xs (λ k d l. h (suc k) d (omega arith)))
@@ -54,7 +49,7 @@ numbered_sound hull tris n (t ∷ ts) h =
 
 outer_sound : (hull : List ℕ) (tris : List Tri) → All (IsSound hull tris) (outer_sides (ring_pairs hull))
 outer_sound hull tris =
-    All-map_of (IsSound hull tris) (λ p. ((p.1, p.0), None)) (ring_pairs hull)
+    All-map (IsSound hull tris) (λ p. ((p.1, p.0), None)) (ring_pairs hull)
     (λ k d l.
     let p = get_or (ring_pairs hull) k d in
     record {
@@ -82,7 +77,7 @@ downs_sound hull tris ups downs hs split moved =
     let P : (ℕ × ℕ) × Option ℕ → Type 0 = λ s. IsSound hull tris (turned_side s) in
     let all = all_sides hull tris in
     All-permutation (λ h. P (half_key h)) downs hs moved
-    (All-map_back P half_key downs (subst (All P) (sym split.downs_are) (All-filter goes_up P (map turned_side all) (All-map_of P turned_side all (all_sound hull tris)))))
+    (All-map_back P half_key downs (subst (All P) (sym split.downs_are) (All-filter goes_up P (map turned_side all) (All-map P turned_side all (all_sound hull tris)))))
 
 length-numbered : (n : ℕ) (ts : List Tri) → length (numbered_sides n ts) ≡ 3 * length ts
 length-numbered n [] = refl

@@ -1,12 +1,12 @@
 -- Flips in a mesh, and what a row of shortening flips keeps.
-use Rattle.std.specs.Prelude.{◌≡◌, ◌≢◌, ◌⊎◌, ℕ, ◌<◌, List, length, All, Option, Some, slice_set}
+use Rattle.std.specs.Prelude.{◌≡◌, ◌≢◌, ◌⊎◌, ℕ, ◌<◌, List, length, All, sum_by, Option, Some, slice_set}
 use Rattle.exact_predicates.specs.declared.edge.Edge.{Edge}
 use Rattle.exact_predicates.specs.declared.point.Point.{Point}
 use Rattle.exact_predicates.specs.declared.tri.Tri.{Tri}
 use Rattle.exact_predicates.specs.Candidates.{Joins}
 use Rattle.exact_predicates.specs.Flip.{IsFlip, IsShortening}
 use Rattle.exact_predicates.specs.Hull.{IsHull}
-use Rattle.exact_predicates.specs.Length.{IsNotLonger}
+use Rattle.exact_predicates.specs.Length.{IsNotLonger, edge_d2}
 use Rattle.exact_predicates.specs.Plane.{d2}
 use Rattle.exact_predicates.specs.PointSet.{point_at}
 use Rattle.exact_predicates.specs.Triangulation.{HasCorners, edges}
@@ -71,3 +71,9 @@ pub record IsShortened (ps : List Point) (old new : Parts) : Type 0 where
   pub kept : (hull : List ℕ) → IsHull ps hull → IsMeshOf ps hull old → IsMeshOf ps hull new
   pub not_longer : (hull : List ℕ) → IsHull ps hull → IsMeshOf ps hull old
       → IsNotLonger ps (edges hull new.tris) (edges hull old.tris)
+
+-- Where the mesh was a triangulation with some hull, the squared lengths of its edges have become less together.
+abbrev pub IsLowered : List Point → Parts → Parts → Type 0
+IsLowered ps old new =
+    (hull : List ℕ) → IsHull ps hull → IsMeshOf ps hull old
+    → sum_by (edge_d2 ps) (edges hull new.tris) < sum_by (edge_d2 ps) (edges hull old.tris)

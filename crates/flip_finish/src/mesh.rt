@@ -33,7 +33,7 @@ impl Model for Mesh {
 }
 
 impl Mesh {
-    ghost use Rattle.flip_finish.specs.Flipping.{IsFlipped, IsShortened, Shortens, slot_d2};
+    ghost use Rattle.flip_finish.specs.Flipping.{IsFlipped, IsLowered, IsShortened, Shortens, slot_d2};
     ghost use Rattle.flip_finish.specs.Mesh.{AreItsEdges, IsMeshOf, IsWhole, IsWithin, slot_edges};
 
     /// The mesh of a triangulation. Its triangles are in the order of the list, its slots in ascending
@@ -97,6 +97,7 @@ impl Mesh {
         ensures flipped { IsFlipped points.now.points self.old self.new slot }
         ensures whole { IsWhole self.new }
         ensures shortened { IsShortened points.now.points self.old self.new }
+        ensures lowered { IsLowered points.now.points self.old self.new }
         ensures falls { sum_by (slot_d2 points.now.points) self.new.slots < sum_by (slot_d2 points.now.points) self.old.slots }
     {
         let Some(across) = Across::of(&self.faces, &self.slots, slot) else {

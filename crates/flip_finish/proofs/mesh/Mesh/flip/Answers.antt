@@ -1,7 +1,7 @@
 use Rattle.std.proofs.Common.{◌<◌, sum_by, sym, ◌∙◌, subst}
 use Rattle.std.proofs.lemmas.List.{with_items_is}
 use Rattle.std.specs.Vec.{with_items}
-use Rattle.flip_finish.specs.Flipping.{IsFlipped, IsShortened, slot_d2}
+use Rattle.flip_finish.specs.Flipping.{IsFlipped, IsLowered, IsShortened, slot_d2}
 use Rattle.flip_finish.specs.Mesh.{Parts}
 use Rattle.flip_finish.proofs.FlipAnswers.{IsDone, done, ends_differ}
 use Rattle.flip_finish.proofs.Quads.{IsShortening-across, outer_not_quad, parts}
@@ -48,6 +48,11 @@ pub returns-clause-shortened : goal.returns-clause-shortened
 returns-clause-shortened c =
     subst (λ m. IsShortened c.args.points.now.points m (parts (with_items c.self.inside.faces c.flip.new.faces).items (with_items c.self.inside.slots c.flip.new.slots).items))
     c.self.view_is (all_done c).shortened
+
+pub returns-clause-lowered : goal.returns-clause-lowered
+returns-clause-lowered c =
+    subst (λ m. IsLowered c.args.points.now.points m (parts (with_items c.self.inside.faces c.flip.new.faces).items (with_items c.self.inside.slots c.flip.new.slots).items))
+    c.self.view_is (all_done c).lowered
 
 pub returns-clause-falls : goal.returns-clause-falls
 returns-clause-falls c =
