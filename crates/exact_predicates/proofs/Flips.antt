@@ -61,7 +61,7 @@ right_bare : (ps : List Point) (hull : List ℕ) (old new : List Tri) (u v a b :
 right_bare ps hull old new u v a b t f = IsBare-corners ps f.right v u b f.right_is (at_place (IsEmpty ps) old f.j f.right t.empty f.j_in f.right_at)
 
 -- neither diagonal is an edge of the hull
-inner_diagonals : (ps : List Point) (hull : List ℕ) (old new : List Tri) (u v a b : ℕ)
+pub inner_diagonals : (ps : List Point) (hull : List ℕ) (old new : List Tri) (u v a b : ℕ)
     → IsHull ps hull → IsTriangulation ps hull old → IsFlip old new u v a b → IsShortening ps u v a b
     → AreInner hull u v × AreInner hull a b
 inner_diagonals ps hull old new u v a b h t f s =

@@ -16,6 +16,7 @@ use Rattle.flip_finish.specs.Flipping.{IsLowered, IsSameBut, IsShortened}
 use Rattle.flip_finish.specs.Mesh.{IsMeshOf, triangle_left}
 use Rattle.flip_finish.specs.Places.{IsAt}
 use Rattle.flip_finish.proofs.FlipSteps.{Step, new_ab, new_ba, new_faces, new_slots}
+use Rattle.flip_finish.proofs.FlippedEdges.{each-step}
 use Rattle.flip_finish.proofs.Flipped.{IsFlip-step, length-step, others-step, within-step}
 use Rattle.flip_finish.proofs.Quads.{parts}
 use Rattle.flip_finish.proofs.Slots.{left_down, left_up}
@@ -61,6 +62,7 @@ IsMeshOf-step : (ps : List Point) (hull : List ℕ) (s : Step) → IsShortening 
 IsMeshOf-step ps hull s short h m =
     record {
       tris = IsTriangulation-flip ps hull (face_tris s.faces) (face_tris (new_faces s)) s.u s.v s.a s.b h m.tris (IsFlip-step s) short;
+      each = each-step ps hull s short h m.tris m.each;
       outer_left = λ p now at_p none.
           let (old, at_old, was, same) = (outer_before s p now at_p).0 none in
           subst (λ (e : Edge). IsHullPair hull e.b e.a) (sym same) (m.outer_left p old at_old was);

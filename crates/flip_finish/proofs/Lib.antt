@@ -6,6 +6,7 @@ pub mod Fitting
 pub mod FlipAnswers
 pub mod FlipSteps
 pub mod Flipped
+pub mod FlippedEdges
 pub mod FlippedMeshes
 pub mod Giving
 pub mod HalfSums

@@ -1,5 +1,5 @@
 -- A mesh: a list of triangles, and a list of slots, each with an edge and the triangles on its two sides.
-use Rattle.std.specs.Prelude.{◌≡◌, ◌⊎◌, ℕ, ◌+◌, ◌<◌, ◌≤◌, nat_lt, List, length, AllPairs, map, sum_by, Option, Some, None, if◌then◌else◌}
+use Rattle.std.specs.Prelude.{◌≡◌, ◌⊎◌, ℕ, ◌+◌, ◌<◌, ◌≤◌, nat_lt, List, length, map, sum_by, Option, Some, None, if◌then◌else◌}
 use Rattle.exact_predicates.specs.declared.edge.Edge.{Edge}
 use Rattle.exact_predicates.specs.declared.point.Point.{Point}
 use Rattle.exact_predicates.specs.declared.tri.Tri.{Tri}
@@ -40,13 +40,6 @@ pub record IsWithin (ps : List Point) (t : Tri) : Type 0 where
   pub b_in : t.b < length ps
   pub c_in : t.c < length ps
 
--- The mesh is a triangulation of the points ps with this hull, and a slot lacks a triangle only where its edge is a pair
--- of the hull with nothing on its other side.
-pub record IsMeshOf (ps : List Point) (hull : List ℕ) (m : Parts) : Type 0 where
-  pub tris : IsTriangulation ps hull m.tris
-  pub outer_left : (p : ℕ) (s : Slot) → IsAt m.slots p s → s.left ≡ None → IsHullPair hull s.edge.b s.edge.a
-  pub outer_right : (p : ℕ) (s : Slot) → IsAt m.slots p s → s.right ≡ None → IsHullPair hull s.edge.a s.edge.b
-
 -- edges by the lesser end, and then by the greater: f does not come before e
 abbrev pub IsUpTo : Edge → Edge → Type 0
 IsUpTo e f = (e.a < f.a) ⊎ ((e.a ≡ f.a) × (e.b ≤ f.b))
@@ -55,7 +48,10 @@ IsUpTo e f = (e.a < f.a) ⊎ ((e.a ≡ f.a) × (e.b ≤ f.b))
 abbrev pub edge_count : List (ℕ × ℕ) → ℕ → ℕ → ℕ
 edge_count es x y = sum_by (hit x y) es + sum_by (hit y x) es
 
--- the slots have the edges of the triangulation in ascending order, each as often as it occurs
-pub record AreItsEdges (hull : List ℕ) (m : Parts) : Type 0 where
-  pub ascending : AllPairs (λ s t. IsUpTo s.edge t.edge) m.slots
+-- The mesh is a triangulation of the points ps with this hull. Its slots have the edges, each as often as it occurs, and lack
+-- a triangle only where the edge is a pair of the hull with nothing on its other side.
+pub record IsMeshOf (ps : List Point) (hull : List ℕ) (m : Parts) : Type 0 where
+  pub tris : IsTriangulation ps hull m.tris
   pub each : (x y : ℕ) → x < y → sum_by (λ s. hit x y (s.edge.a, s.edge.b)) m.slots ≡ edge_count (edges hull m.tris) x y
+  pub outer_left : (p : ℕ) (s : Slot) → IsAt m.slots p s → s.left ≡ None → IsHullPair hull s.edge.b s.edge.a
+  pub outer_right : (p : ℕ) (s : Slot) → IsAt m.slots p s → s.right ≡ None → IsHullPair hull s.edge.a s.edge.b

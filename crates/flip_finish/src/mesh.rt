@@ -1,5 +1,5 @@
 // The mesh, and the flip of one edge.
-ghost use Rattle.std.specs.Prelude.{◌≡◌, ◌↔◌, ◌<◌, ℕ, List, All, IsTrue, IfOk, IsPermutation, IsSorted, length, slice_get, Some, sum_by};
+ghost use Rattle.std.specs.Prelude.{◌≡◌, ◌↔◌, ◌<◌, ℕ, List, All, AllPairs, IsTrue, IfOk, IsPermutation, IsSorted, length, slice_get, Some, sum_by};
 ghost use Rattle.exact_predicates.specs.Hull.{IsHull};
 ghost use Rattle.exact_predicates.specs.Triangulation.{IsTriangulation, tri_cmp};
 
@@ -34,7 +34,7 @@ impl Model for Mesh {
 
 impl Mesh {
     ghost use Rattle.flip_finish.specs.Flipping.{IsFlipped, IsLowered, IsShortened, Shortens, slot_d2};
-    ghost use Rattle.flip_finish.specs.Mesh.{AreItsEdges, IsMeshOf, IsWhole, IsWithin, slot_edges};
+    ghost use Rattle.flip_finish.specs.Mesh.{IsMeshOf, IsUpTo, IsWhole, IsWithin, slot_edges};
 
     /// The mesh of a triangulation. Its triangles are in the order of the list, its slots in ascending
     /// order of their edges. For n points it takes time n log n. `NoMemory` is the only error.
@@ -47,7 +47,7 @@ impl Mesh {
         requires hull { IsHull points.now.points hull.now }
         requires tris { IsTriangulation points.now.points hull.now tris.now }
         ensures same { IfOk result (λ mesh. mesh.tris ≡ tris.now) }
-        ensures edges { IfOk result (λ mesh. AreItsEdges hull.now mesh) }
+        ensures ascending { IfOk result (λ mesh. AllPairs (λ s t. IsUpTo s.edge t.edge) mesh.slots) }
         ensures mesh { IfOk result (λ mesh. IsMeshOf points.now.points hull.now mesh) }
         ensures within { IfOk result (λ mesh. All (IsWithin points.now.points) mesh.tris) }
     {

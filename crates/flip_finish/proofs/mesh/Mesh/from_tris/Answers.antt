@@ -1,5 +1,5 @@
-use Rattle.std.proofs.Common.{sym, ap, ◌∙◌}
-use Rattle.exact_predicates.specs.Triangulation.{edges}
+use Rattle.std.proofs.Common.{subst, sym, ap, ◌∙◌}
+use Rattle.exact_predicates.specs.Triangulation.{IsTriangulation, edges}
 use Rattle.flip_finish.specs.Mesh.{edge_count}
 use Rattle.flip_finish.proofs.EdgeCounts.{edge_count-sides}
 use Rattle.flip_finish.proofs.HullSums.{sides_met}
@@ -10,14 +10,18 @@ slots_of-requires-clause-met c = λ x y ne.
     rw (c.as_slice.ensures.is, c.as_slice-2.ensures.is)
     (sides_met c.args.points.now.points c.args.hull.now c.args.tris.now x y c.requires.hull c.requires.tris ne)
 
-pub returns-clause-edges : goal.returns-clause-edges
-returns-clause-edges c =
+pub returns-clause-mesh : goal.returns-clause-mesh
+returns-clause-mesh c =
+    let ps = c.args.points.now.points in
+    let hull = c.args.hull.now in
     let slots = rw (c.as_slice.ensures.is, c.as_slice-2.ensures.is) at c.in_ok-slots.ensures in
     let same = c.in_ok-faces.ensures.same ∙ c.as_slice-3.ensures.is in
     record {
-      ascending = slots.ascending;
+      tris = subst (λ ts. IsTriangulation ps hull ts) (sym same) c.requires.tris;
       each = λ x y l.
           slots.each x y l
-          ∙ (edge_count-sides c.args.points.now.points c.args.hull.now c.args.tris.now x y c.requires.hull c.requires.tris l
-          ∙ ap (λ ts. edge_count (edges c.args.hull.now ts) x y) (sym same));
+          ∙ (edge_count-sides ps hull c.args.tris.now x y c.requires.hull c.requires.tris l
+          ∙ ap (λ ts. edge_count (edges hull ts) x y) (sym same));
+      outer_left = slots.outer_left;
+      outer_right = slots.outer_right;
     }
