@@ -1,5 +1,5 @@
 -- What the flip of a mesh ensures.
-use Rattle.std.proofs.Common.{◌≡◌, ◌≢◌, ℕ, ◌<◌, List, slice_set, sum_by, sym, ◌∙◌, subst}
+use Rattle.std.proofs.Common.{refl, ◌≡◌, ◌≢◌, ℕ, ◌<◌, List, slice_set, sum_by, sym, ◌∙◌, subst}
 use Rattle.exact_predicates.specs.declared.point.Point.{Point}
 use Rattle.exact_predicates.specs.Flip.{IsShortening}
 use Rattle.exact_predicates.specs.PointSet.{point_at}
@@ -32,7 +32,7 @@ pub record IsDone (ps : List Point) (faces new : List Face) (slots after : List 
 
 pub done : (ps : List Point) (faces new : List Face) (slots after : List Slot) (slot : ℕ) (x : Across) → Fits faces slots → IsAcross faces slot x
     → IsExchanged faces new slots after x → IsShortening ps x.left.u x.left.v x.left.w x.right.w → IsDone ps faces new slots after slot
-unfolding HasQuad-across
+unfolding HasQuad-across IsFlip-step
 done ps faces new slots after slot x fits h e short =
     let s = step faces new slots after slot x fits h e (ends_differ ps x.left.u x.left.v x.left.w x.right.w short) in
     let quad = HasQuad-across faces slots slot x fits h in
@@ -49,6 +49,8 @@ done ps faces new slots after slot x fits h e short =
         quad = quad;
         shortening = short;
         tris = IsFlip-step s;
+        i_same = refl;
+        j_same = refl;
         edge = e.diagonal.edge;
         joins = Joins-comm e.diagonal.edge x.right.w x.left.w e.diagonal_is.joins;
         edges = subst (λ n. slot_edges (new_slots s) ≡ slice_set (slot_edges slots) n e.diagonal.edge) at (edges-step s);

@@ -28,7 +28,7 @@ use Rattle.flip_finish.proofs.Slots.{HasLeft-apart, HasLeft-ends, left_down, lef
 use Rattle.flip_finish.proofs.Standing.{IsAt-map, IsAt-only, IsAt-set, IsAt-set_other}
 
 -- the list of triangles is flipped
-pub IsFlip-step : (s : Step) → IsFlip (face_tris s.faces) (face_tris (new_faces s)) s.u s.v s.a s.b
+unfoldable pub IsFlip-step : (s : Step) → IsFlip (face_tris s.faces) (face_tris (new_faces s)) s.u s.v s.a s.b
 IsFlip-step s =
     let tri : Face → Tri = λ f. f.tri in
     record {

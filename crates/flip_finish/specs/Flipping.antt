@@ -51,6 +51,8 @@ pub record IsFlipped (ps : List Point) (old new : Parts) (slot : ℕ) : Type 0 w
   pub quad : HasQuad old slot u v a b
   pub shortening : IsShortening ps u v a b
   pub tris : IsFlip old.tris new.tris u v a b
+  pub i_same : tris.i ≡ quad.i
+  pub j_same : tris.j ≡ quad.j
   pub edge : Edge
   pub joins : Joins edge a b
   pub edges : slot_edges new.slots ≡ slice_set (slot_edges old.slots) slot edge
