@@ -40,15 +40,15 @@ length-le_from_distinct xs [] distinct all = omega arith
 length-le_from_distinct {X} xs (x ∷ rest) distinct all =
     let (places, p) = places_of xs (x ∷ rest) all in
     let apart : AllPairs (λ j k. j ≢ k) places = λ i j d i_j j_in same.
-      let size : length places ≡ length (x ∷ rest) = p.size in
-      let i_in : i < length places = omega arith in
-      let one : get_or places i 0 ≡ get_or places j 0 = sym (get_or_default places i d 0 i_in) ∙ (same ∙ get_or_default places j d 0 j_in) in
-      distinct i j x i_j (omega arith) (sym (p.at i x (omega arith)) ∙ (ap (λ k. get_or xs k x) one ∙ p.at j x (omega arith))) in
+    let size : length places ≡ length (x ∷ rest) = p.size in
+    let i_in : i < length places = omega arith in
+    let one : get_or places i 0 ≡ get_or places j 0 = sym (get_or_default places i d 0 i_in) ∙ (same ∙ get_or_default places j d 0 j_in) in
+    distinct i j x i_j (omega arith) (sym (p.at i x (omega arith)) ∙ (ap (λ k. get_or xs k x) one ∙ p.at j x (omega arith))) in
     let below : (q : ℕ) → list_any (eqb q) places ≡ true → q < length xs = λ q found.
-      let (k, r, k_in, at_k, same) = Any-from_list_any (eqb q) places found in
-      let e : q ≡ r = same_number q r same in
-      let h : get_or places k r < length xs = p.within k r k_in in
-      omega (arith, e, at_k, h) in
+    let (k, r, k_in, at_k, same) = Any-from_list_any (eqb q) places found in
+    let e : q ≡ r = same_number q r same in
+    let h : get_or places k r < length xs = p.within k r k_in in
+    omega (arith, e, at_k, h) in
     let few : length places ≤ length xs = length-le_from_distinct_below places (length xs) (IsDistinct-from_AllPairs Decides-eqb places apart) below in
     omega (arith, p.size)
 

@@ -94,6 +94,6 @@ pub orient-same_line_right : (a b r s c : Point) → Precedes a b → Precedes r
 unfolding orient
 orient-same_line_right a b r s c ab rs er es h =
     let back = same_way (b.x -ℤ a.x) (b.y -ℤ a.y) (s.x -ℤ r.x) (s.y -ℤ r.y) (pos 0 -ℤ (c.x -ℤ r.x)) (pos 0 -ℤ (c.y -ℤ r.y)) (forward_from a b ab) (forward_from r s rs)
-        (let k = difference a b r s in omega (arith, ints))
-        (let k = difference a b r c in omega (arith, ints, cross_opposite (b.x -ℤ a.x) (b.y -ℤ a.y) (c.x -ℤ r.x) (c.y -ℤ r.y))) in
+    (let k = difference a b r s in omega (arith, ints))
+    (let k = difference a b r c in omega (arith, ints, cross_opposite (b.x -ℤ a.x) (b.y -ℤ a.y) (c.x -ℤ r.x) (c.y -ℤ r.y))) in
     omega (arith, ints, cross_opposite (s.x -ℤ r.x) (s.y -ℤ r.y) (c.x -ℤ r.x) (c.y -ℤ r.y))
