@@ -2,13 +2,9 @@
 
 use crate::shortening::shortened;
 use crate::tests::{list_of, points_of};
-use exact_predicates::{
-    Edge, Point, PointList, Points, PointsStop, Tri, crosses, d2, in_closed_triangle,
-    in_left_diamond, orient, strictly_between, strictly_convex,
-};
+use exact_predicates::{Edge, Point, PointList, Points, PointsStop, d2, orient};
 use hull_sweep::sweep;
 use length_enclosure::{enclosure, is_square, root_floor, weight, write_units};
-use point_grid::Grid;
 use std::alloc::Global;
 use std::test::Fail;
 
@@ -106,69 +102,6 @@ fn roots_and_tests(rt: HostRuntime) -> Result<(), Fail> {
     assert_eq!(rt; orient(p, q, r), -12);
     assert_eq!(rt; orient(p, r, q), 12);
     assert_eq!(rt; d2(q, r), 25);
-    Ok(())
-}
-
-// The tests on three and four points, at the edges of their answers.
-#[test]
-fn relations_of_points(rt: HostRuntime) -> Result<(), Fail> {
-    let [o, e, n, m, c] = [(0, 0), (4, 0), (0, 4), (2, 0), (1, 1)].map(|(x, y)| Point {
-        id: 1,
-        x,
-        y,
-    });
-    assert!(rt; strictly_between(&o, &e, &m));
-    assert!(rt; !strictly_between(&o, &m, &e));
-    assert!(rt; !strictly_between(&o, &e, &o));
-    assert!(rt; !strictly_between(&o, &e, &c));
-    assert!(rt; orient(&o, &e, &n) > 0);
-    for (r, inside) in [(&c, true), (&m, true), (&o, true)] {
-        assert_eq!(rt; in_closed_triangle(&o, &e, &n, r), inside);
-    }
-    assert!(rt; orient(&o, &m, &n) > 0);
-    assert!(rt; !in_closed_triangle(&o, &m, &n, &e));
-    let far = Point { id: 1, x: 4, y: 4 };
-    assert!(rt; crosses(&o, &far, &e, &n));
-    assert!(rt; crosses(&n, &e, &far, &o));
-    assert!(rt; !crosses(&o, &c, &e, &n));
-    assert!(rt; !crosses(&o, &e, &m, &n));
-    assert!(rt; orient(&e, &n, &far) < 0);
-    assert!(rt; orient(&n, &e, &far) > 0);
-    assert!(rt; orient(&e, &n, &o) > 0);
-    assert!(rt; strictly_convex(&n, &e, &far, &o));
-    // The apex and the base of a diamond are not in it, and what is below the apex is.
-    let end = Point { id: 1, x: 10, y: 0 };
-    for (x, y, inside) in [
-        (5, 4, false),
-        (5, 3, true),
-        (5, 0, false),
-        (5, -3, false),
-        (1, 1, false),
-    ] {
-        assert_eq!(rt; in_left_diamond(&o, &end, &Point { id: 1, x, y }), inside);
-    }
-    Ok(())
-}
-
-// The least point in a segment, a triangle and a diamond.
-#[test]
-fn queries_of_a_grid(rt: HostRuntime) -> Result<(), Fail> {
-    let alloc = rt.alloc();
-    let points = points_of(alloc, &[(0, 0), (4, 0), (4, 4), (0, 4), (2, 2)])?;
-    let grid = Grid::new(alloc, &points).map_err(|_| Fail::from("no memory"))?;
-    assert_eq!(rt; points.len(), 5);
-    assert_eq!(rt; grid.any_between(&points, 0, 4), Some(2));
-    assert_eq!(rt; grid.any_between(&points, 4, 0), Some(2));
-    assert_eq!(rt; grid.any_between(&points, 0, 2), None);
-    let half = Tri { a: 0, b: 3, c: 4 };
-    assert!(rt; orient(points.at(0), points.at(3), points.at(4)) > 0);
-    assert_eq!(rt; grid.any_in_closed_triangle(&points, half), Some(2));
-    let points = points_of(alloc, &[(0, 0), (5, 1), (10, 0), (5, -1)])?;
-    let grid = Grid::new(alloc, &points).map_err(|_| Fail::from("no memory"))?;
-    assert_eq!(rt; points.len(), 4);
-    assert_eq!(rt; grid.any_in_diamond(&points, 0, 3), Some(2));
-    assert_eq!(rt; grid.any_in_diamond(&points, 3, 0), Some(1));
-    assert_eq!(rt; grid.any_in_diamond(&points, 0, 1), None);
     Ok(())
 }
 

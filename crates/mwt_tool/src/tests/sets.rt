@@ -45,8 +45,8 @@ pub fn is_inside_box(p: &Point, q: &Point, r: &Point) -> bool {
     across && upright && !is_p && !is_q
 }
 
-// Whether the triangle turns to the left and holds no other point, in it or on its rim.
-fn is_empty(points: &Points, tri: &Tri) -> bool {
+/// Whether the triangle turns to the left and holds no other point, in it or on its rim.
+pub fn is_empty(points: &Points, tri: &Tri) -> bool {
     let (Some(a), Some(b), Some(c)) = (at(points, tri.a), at(points, tri.b), at(points, tri.c))
     else {
         return false;
