@@ -1,5 +1,5 @@
 -- The test whether a slot shortens.
-use Rattle.std.proofs.Common.{◌≡◌, ℕ, Bool, false, nat_lt, List, IsTrue, ◌↔◌, arith, ap, ◌∙◌}
+use Rattle.std.proofs.Common.{◌≤◌, ◌<◌, ◌≡◌, ℕ, Bool, nat_lt, List, IsTrue, ◌↔◌, arith, ap, ◌∙◌}
 use Rattle.std.proofs.lemmas.Bool.{lt-ltb, ltb-true}
 use Rattle.exact_predicates.specs.declared.point.Point.{Point}
 use Rattle.exact_predicates.specs.Plane.{Crosses, d2}
@@ -19,15 +19,15 @@ pub record AreCorners (ps : List Point) (x : Across) (pu pv pa pb : Point) : Typ
   pub a : pa ≡ point_at ps x.left.w
   pub b : pb ≡ point_at ps x.right.w
 
--- the test by the lengths, where the diagonals cross
-pub by_lengths : (ps : List Point) (faces : List Face) (slots : List Slot) (slot : ℕ) (x : Across) (pu pv pa pb : Point) (d e : ℕ)
-    → Fits faces slots → IsAcross faces slot x → AreCorners ps x pu pv pa pb → Crosses pu pv pa pb → d ≡ d2 pa pb → e ≡ d2 pu pv
-    → IsTrue (nat_lt d e) ↔ Shortens ps (parts faces slots) slot
-by_lengths ps faces slots slot x pu pv pa pb d e fits h k crosses d_is e_is =
+-- the test by the crossing, where the other diagonal is shorter
+pub by_crossing : (ps : List Point) (faces : List Face) (slots : List Slot) (slot : ℕ) (x : Across) (pu pv pa pb : Point) (d e : ℕ) (answer : Bool)
+    → Fits faces slots → IsAcross faces slot x → AreCorners ps x pu pv pa pb → d ≡ d2 pa pb → e ≡ d2 pu pv → d < e
+    → (IsTrue answer ↔ Crosses pu pv pa pb) → IsTrue answer ↔ Shortens ps (parts faces slots) slot
+by_crossing ps faces slots slot x pu pv pa pb d e answer fits h k d_is e_is below test =
     let short : d ≡ d2 (point_at ps x.left.w) (point_at ps x.right.w) = d_is ∙ (ap (λ p. d2 p pb) k.a ∙ ap (λ p. d2 (point_at ps x.left.w) p) k.b) in
     let long : e ≡ d2 (point_at ps x.left.u) (point_at ps x.left.v) = e_is ∙ (ap (λ p. d2 p pv) k.u ∙ ap (λ p. d2 (point_at ps x.left.u) p) k.v) in (
-      λ below.
-          let l = ltb-true d e below in
+      λ crossing.
+          let crosses = test.0 crossing in
           record {
             u = x.left.u;
             v = x.left.v;
@@ -36,14 +36,16 @@ by_lengths ps faces slots slot x pu pv pa pb d e fits h k crosses d_is e_is =
             quad = HasQuad-across faces slots slot x fits h;
             shortening = record { convex = rw (k.u, k.v, k.a, k.b) at crosses; shorter = omega arith };
           },
-      λ s. let t = (IsShortening-across ps faces slots slot x fits h s).shorter in lt-ltb d e (omega arith),
+      λ s. test.1 (rw (k.u, k.v, k.a, k.b) (IsShortening-across ps faces slots slot x fits h s).convex),
     )
 
--- and where they do not
-pub not_crossing : (ps : List Point) (faces : List Face) (slots : List Slot) (slot : ℕ) (x : Across) (pu pv pa pb : Point) (answer : Bool)
-    → Fits faces slots → IsAcross faces slot x → AreCorners ps x pu pv pa pb → (IsTrue answer ↔ Crosses pu pv pa pb) → answer ≡ false
-    → IsTrue answer ↔ Shortens ps (parts faces slots) slot
-not_crossing ps faces slots slot x pu pv pa pb answer fits h k test differs = (
-  λ t. absurd (cc),
-  λ s. test.1 (rw (k.u, k.v, k.a, k.b) (IsShortening-across ps faces slots slot x fits h s).convex),
-)
+-- and where it is not
+pub not_shorter : (ps : List Point) (faces : List Face) (slots : List Slot) (slot : ℕ) (x : Across) (pu pv pa pb : Point) (d e : ℕ)
+    → Fits faces slots → IsAcross faces slot x → AreCorners ps x pu pv pa pb → d ≡ d2 pa pb → e ≡ d2 pu pv → e ≤ d
+    → IsTrue (nat_lt d e) ↔ Shortens ps (parts faces slots) slot
+not_shorter ps faces slots slot x pu pv pa pb d e fits h k d_is e_is above =
+    let short : d ≡ d2 (point_at ps x.left.w) (point_at ps x.right.w) = d_is ∙ (ap (λ p. d2 p pb) k.a ∙ ap (λ p. d2 (point_at ps x.left.w) p) k.b) in
+    let long : e ≡ d2 (point_at ps x.left.u) (point_at ps x.left.v) = e_is ∙ (ap (λ p. d2 p pv) k.u ∙ ap (λ p. d2 (point_at ps x.left.u) p) k.v) in (
+      λ below. let l = ltb-true d e below in absurd (omega arith),
+      λ s. let t = (IsShortening-across ps faces slots slot x fits h s).shorter in lt-ltb d e (omega arith),
+    )

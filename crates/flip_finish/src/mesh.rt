@@ -87,7 +87,7 @@ impl Mesh {
         };
         let (u, v) = (points.at(left.u), points.at(left.v));
         let (a, b) = (points.at(left.w), points.at(right.w));
-        crosses(u, v, a, b) && d2(a, b) < d2(u, v)
+        d2(a, b) < d2(u, v) && crosses(u, v, a, b)
     }
 
     /// Flips the slot's edge `uv`, which that shortens: the slot's edge becomes `ab`, and the two

@@ -1,5 +1,6 @@
+use Rattle.std.proofs.Common.{arith}
 use Rattle.flip_finish.proofs.Quads.{HasQuad-across, within_quad}
-use Rattle.flip_finish.proofs.Testing.{by_lengths, not_crossing}
+use Rattle.flip_finish.proofs.Testing.{by_crossing, not_shorter}
 use Rattle.flip_finish.proofs.mesh.Mesh.shortens.Goals as goal
 
 pub at-u-requires : goal.at-u-requires
@@ -26,18 +27,18 @@ at-b-requires c =
     let within = rw (← c.self.view_is) at c.requires.within in
     (within_quad _ _ _ _ _ _ _ within (HasQuad-across _ _ _ _ c.self.invariant x)).3
 
-pub returns-then-crosses : goal.returns-then-crosses
-returns-then-crosses c =
+pub returns-then-d2 : goal.returns-then-d2
+returns-then-d2 c =
     let x = rw c.deref.ensures.value at c.in-Some.ensures in
     rw (← c.self.view_is)
-    (by_lengths c.args.points.now.points _ _ c.args.slot c.in-Some.field-0 _ _ _ _ c.d2.result c.d2-then-crosses.result c.self.invariant x
+    (by_crossing c.args.points.now.points _ _ c.args.slot c.in-Some.field-0 _ _ _ _ c.d2.result c.d2-2.result c.crosses.result c.self.invariant x
     (record { u = c.at-u.ensures.value; v = c.at-v.ensures.value; a = c.at-a.ensures.value; b = c.at-b.ensures.value })
-    (c.crosses.ensures.0 c.if-crosses.true) c.d2.ensures.value c.d2-then-crosses.ensures.value)
+    c.d2.ensures.value c.d2-2.ensures.value (omega arith) c.crosses.ensures)
 
-pub returns-else-crosses : goal.returns-else-crosses
-returns-else-crosses c =
+pub returns-else-d2 : goal.returns-else-d2
+returns-else-d2 c =
     let x = rw c.deref.ensures.value at c.in-Some.ensures in
     rw (← c.self.view_is)
-    (not_crossing c.args.points.now.points _ _ c.args.slot c.in-Some.field-0 _ _ _ _ c.crosses.result c.self.invariant x
+    (not_shorter c.args.points.now.points _ _ c.args.slot c.in-Some.field-0 _ _ _ _ c.d2.result c.d2-2.result c.self.invariant x
     (record { u = c.at-u.ensures.value; v = c.at-v.ensures.value; a = c.at-a.ensures.value; b = c.at-b.ensures.value })
-    c.crosses.ensures c.if-crosses.false)
+    c.d2.ensures.value c.d2-2.ensures.value (omega arith))
