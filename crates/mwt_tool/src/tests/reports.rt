@@ -110,7 +110,7 @@ fn all_solved(rt: &(impl Threads + Sync + Abort), alloc: Global, rows: &[Row]) -
 }
 
 #[test]
-fn quadrilaterals(rt: HostRuntime) -> Result<(), Fail> {
+fn squares(rt: HostRuntime) -> Result<(), Fail> {
     let rows = [
         // The unit square.
         Row {
@@ -128,22 +128,6 @@ fn quadrilaterals(rt: HostRuntime) -> Result<(), Fail> {
             ],
             triangles: &[[0, 2, 1], [1, 2, 3]],
             length: "5.414213 5.414214",
-        },
-        // A thin quadrilateral, whose long diagonal the sweep does not take.
-        Row {
-            nodes: &[(0, 0), (5, 1), (10, 0), (5, -1)],
-            order: &[1, 4, 2, 3],
-            hull: &[0, 1, 3, 2],
-            candidates: 6,
-            live: &[
-                (0, 1, true),
-                (0, 2, true),
-                (1, 2, false),
-                (1, 3, true),
-                (2, 3, true),
-            ],
-            triangles: &[[0, 1, 2], [1, 3, 2]],
-            length: "22.396076 22.396080",
         },
         // The greatest coordinates.
         Row {
@@ -166,6 +150,29 @@ fn quadrilaterals(rt: HostRuntime) -> Result<(), Fail> {
             ],
             triangles: &[[0, 2, 1], [1, 2, 3]],
             length: "10828427124.746190 10828427124.746191",
+        },
+    ];
+    all_solved(&rt, rt.alloc(), rows.as_slice())
+}
+
+#[test]
+fn quadrilaterals(rt: HostRuntime) -> Result<(), Fail> {
+    let rows = [
+        // A thin quadrilateral, whose long diagonal the sweep does not take.
+        Row {
+            nodes: &[(0, 0), (5, 1), (10, 0), (5, -1)],
+            order: &[1, 4, 2, 3],
+            hull: &[0, 1, 3, 2],
+            candidates: 6,
+            live: &[
+                (0, 1, true),
+                (0, 2, true),
+                (1, 2, false),
+                (1, 3, true),
+                (2, 3, true),
+            ],
+            triangles: &[[0, 1, 2], [1, 3, 2]],
+            length: "22.396076 22.396080",
         },
         // A quadrilateral whose long diagonal the sweep takes, and one flip replaces.
         Row {
