@@ -15,7 +15,7 @@ mod top;
 mod words;
 mod writer;
 
-pub use report::Report;
+pub use report::{LiveLine, LiveLines, Report};
 pub use top::{run, run_in_memory};
 
 /// The most bytes of input that are read.
