@@ -116,6 +116,36 @@ fn greatest_closed_lists(rt: HostRuntime) -> Result<(), Fail> {
     Ok(())
 }
 
+// The network of five points in convex position, by the numbers of its edges.
+#[test]
+fn network_of_five_points(rt: HostRuntime) -> Result<(), Fail> {
+    let alloc = rt.alloc();
+    let points = points_of(alloc, &[(0, 0), (2, -2), (7, -3), (10, 0), (5, 1)])?;
+    let hull = sweep(alloc, &points)
+        .map_err(|_| Fail::from("no memory"))?
+        .hull;
+    let Elimination { net, flags } = Elimination::of(&rt, alloc, &points, &hull).map_err(
+        |_| Fail::from("stopped"),
+    )?;
+    assert_eq!(rt; net.edges(), 10);
+    assert_eq!(rt; net.tris(), 10);
+    assert_eq!(rt; flags.len(), 10);
+    assert_eq!(rt; flags.count(), 7);
+    assert_eq!(rt; net.hull(), [0, 1, 3, 4, 2].as_slice());
+    let mut sides = 0usize;
+    for e in 0..net.edges() {
+        assert_eq!(rt; flags.live(e), e != 2 && e != 3 && e != 6, "{e}");
+        assert_eq!(rt; net.is_hull(e), [0, 1, 5, 8, 9].contains(&e), "{e}");
+        sides = sides.saturating_add(net.left(e).len());
+        sides = sides.saturating_add(net.right(e).len());
+    }
+    assert_eq!(rt; sides, 30);
+    assert_eq!(rt; (net.edge(2).a, net.edge(2).b), (0, 3));
+    assert_eq!(rt; net.weight(0), 2_828_427);
+    assert_eq!(rt; net.weight(7), 4_472_135);
+    Ok(())
+}
+
 // The first points of the parabola: all of them on the hull, and each triangle of them empty.
 fn parabola(alloc: Global, count: i64) -> Result<Points, Fail> {
     let mut places = Vec::new(alloc);
