@@ -55,7 +55,8 @@ ascending-only {X} R apart (x ∷ xs) (y ∷ ys) up rise there back =
         (λ k. k)
         (Contains-cases x xs z (back z (Contains-later y ys z h)))
 
-EdgePrecedes-not : (e f : Edge) → EdgePrecedes e f → EdgePrecedes f e → ⊥
+-- no edge comes before one that comes before it
+pub EdgePrecedes-not : (e f : Edge) → EdgePrecedes e f → EdgePrecedes f e → ⊥
 EdgePrecedes-not e f h k =
     ⊎_elim
     (λ l. ⊎_elim (λ m. omega arith) (λ r. let r0 = r.0 in omega arith) k)

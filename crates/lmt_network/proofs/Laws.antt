@@ -1,7 +1,13 @@
 -- Laws on closed edges, by their numbers.
 use Rattle.std.proofs.Common.{◌≡◌, ◌⊎◌, ℕ, ◌<◌, List, [], ◌∷◌, length, All, Contains, ⊎_elim, inl, inr, subst}
 use Rattle.std.proofs.lemmas.List.Elements.{All-contains}
+use Rattle.exact_predicates.specs.declared.diamond.Diamond.{Diamond}
+use Rattle.exact_predicates.specs.declared.edge.Edge.{Edge}
+use Rattle.exact_predicates.specs.declared.point.Point.{Point}
+use Rattle.exact_predicates.specs.Candidates.{EdgePrecedes}
+use Rattle.exact_predicates.proofs.Ascending.{ascending-only, EdgePrecedes-not}
 use Rattle.lmt_network.proofs.Picked.{all-from-members, contains-here, contains-cases, contains-nil}
+use Rattle.lmt_network.specs.Live.{IsLive}
 use Rattle.lmt_network.specs.Network.{NetworkParts}
 use Rattle.lmt_network.specs.Numbers.{IsHullNumber, IsSupported, AreClosed, AreLive, IsDead, IsBroken}
 
@@ -62,3 +68,10 @@ live-if-closed n es closed every =
       hull_edges = λ e e_in hull. All-contains (Contains es) (e ∷ []) e (every (e ∷ []) (hull-closed n e e_in hull)) (contains-here e []);
       greatest = every;
     }
+
+-- over edges: there is one live list
+pub IsLive-only : (ps : List Point) (hull : List ℕ) (diamond : Diamond) (es fs : List Edge) → IsLive ps hull diamond es → IsLive ps hull diamond fs → es ≡ fs
+IsLive-only ps hull diamond es fs h k =
+    ascending-only EdgePrecedes EdgePrecedes-not es fs h.closed.ascending k.closed.ascending
+    (λ e m. All-contains (Contains fs) es e (k.greatest es h.closed) m)
+    (λ e m. All-contains (Contains es) fs e (h.greatest fs k.closed) m)

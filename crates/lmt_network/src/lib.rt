@@ -7,8 +7,10 @@ mod flip_laws;
 mod network;
 mod settle;
 mod tables;
+mod unique_lists;
 
 pub use flags::Flags;
 pub use flip_laws::flip_minimal_laws;
 pub use network::Network;
 pub use settle::plain_settle;
+pub use unique_lists::unique_list_laws;
