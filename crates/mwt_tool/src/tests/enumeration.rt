@@ -1,14 +1,13 @@
 // Tests on a few points, grid queries, candidate edges and empty triangles.
 
-use crate::tests::points_of;
 use crate::tests::sets::{at, in_order, is_empty, is_inside_box};
+use crate::tests::{points_of, swept};
 use diamond_edges::candidates;
 use empty_triangles::triangles;
 use exact_predicates::{
     Diamond, Edge, Edges, Points, Tri, Tris, crosses, in_closed_triangle, in_left_diamond, orient,
     strictly_between, strictly_convex,
 };
-use hull_sweep::sweep;
 use point_grid::Grid;
 use std::alloc::Global;
 use std::test::Fail;
@@ -112,7 +111,7 @@ struct Found {
 
 impl Found {
     fn of(rt: &(impl Threads + Sync), alloc: Global, points: &Points) -> Result<Found, Fail> {
-        let start = sweep(alloc, points).map_err(|_| Fail::from("no memory"))?;
+        let start = swept(alloc, points)?;
         let grid = Grid::new(alloc, points).map_err(|_| Fail::from("no memory"))?;
         let edges = match candidates(rt, alloc, points, &grid, &start.hull, Diamond::Off) {
             Ok(edges) => edges,

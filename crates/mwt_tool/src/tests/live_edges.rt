@@ -3,15 +3,15 @@
 // are taken out until none is left.
 
 use crate::elimination::{Elimination, SolveStop};
-use crate::tests::points_of;
 use crate::tests::sets::{SETS, at, in_order, is_inside_box, is_minimal_between, is_pair};
+use crate::tests::{points_of, swept};
 use diamond_edges::{Diamond, candidates};
 use empty_triangles::{TriStop, triangles};
 use exact_predicates::Points;
-use hull_sweep::sweep;
 use point_grid::Grid;
 use std::alloc::Global;
 use std::test::Fail;
+use std::thread::Threads;
 
 type Ends = (u32, u32);
 
@@ -93,9 +93,7 @@ fn greatest_closed_lists(rt: HostRuntime) -> Result<(), Fail> {
     let alloc = rt.alloc();
     for places in SETS {
         let points = points_of(alloc, places)?;
-        let hull = sweep(alloc, &points)
-            .map_err(|_| Fail::from("no memory"))?
-            .hull;
+        let hull = swept(alloc, &points)?.hull;
         let elimination = Elimination::of(&rt, alloc, &points, &hull).map_err(|_| Fail::from(
             "stopped",
         ))?;
@@ -121,9 +119,7 @@ fn greatest_closed_lists(rt: HostRuntime) -> Result<(), Fail> {
 fn network_of_five_points(rt: HostRuntime) -> Result<(), Fail> {
     let alloc = rt.alloc();
     let points = points_of(alloc, &[(0, 0), (2, -2), (7, -3), (10, 0), (5, 1)])?;
-    let hull = sweep(alloc, &points)
-        .map_err(|_| Fail::from("no memory"))?
-        .hull;
+    let hull = swept(alloc, &points)?.hull;
     let Elimination { net, flags } = Elimination::of(&rt, alloc, &points, &hull).map_err(
         |_| Fail::from("stopped"),
     )?;
@@ -155,31 +151,35 @@ fn parabola(alloc: Global, count: i64) -> Result<Points, Fail> {
     points_of(alloc, &places)
 }
 
+// How many candidate edges the first points of the parabola have, and how many empty triangles, or why
+// these are not listed.
+fn counts_of(
+    rt: &(impl Threads + Sync),
+    alloc: Global,
+    count: i64,
+) -> Result<(u32, Result<u32, TriStop>), Fail> {
+    let points = parabola(alloc, count)?;
+    let hull = swept(alloc, &points)?.hull;
+    let grid = Grid::new(alloc, &points).map_err(|_| Fail::from("no memory"))?;
+    let edges = match candidates(rt, alloc, &points, &grid, &hull, Diamond::Off) {
+        Ok(edges) => edges,
+        Err(_) => return Err(Fail::from("stopped")),
+    };
+    match triangles(rt, alloc, &points, &grid, &edges) {
+        Ok(tris) => Ok((edges.len(), Ok(tris.len()))),
+        Err(stop) => Ok((edges.len(), Err(stop))),
+    }
+}
+
 // 289 of these points have no more empty triangles than the limit, 290 have more; 895 have more
 // candidate edges.
 #[test]
 fn limits_of_edges_and_triangles(rt: HostRuntime) -> Result<(), Fail> {
     let alloc = rt.alloc();
-    for (count, edges, tris) in [(289, 41_616, Some(3_981_264)), (290, 41_905, None)] {
-        let points = parabola(alloc, count)?;
-        let hull = sweep(alloc, &points)
-            .map_err(|_| Fail::from("no memory"))?
-            .hull;
-        let grid = Grid::new(alloc, &points).map_err(|_| Fail::from("no memory"))?;
-        let listed = candidates(&rt, alloc, &points, &grid, &hull, Diamond::Off).map_err(
-            |_| Fail::from("stopped"),
-        )?;
-        assert_eq!(rt; listed.len(), edges);
-        match (triangles(&rt, alloc, &points, &grid, &listed), tris) {
-            (Ok(found), Some(wanted)) => assert_eq!(rt; found.len(), wanted),
-            (Err(stop), None) => assert_eq!(rt; stop, TriStop::Dense),
-            _ => return Err(Fail::from("another answer")),
-        }
-    }
+    assert_eq!(rt; counts_of(&rt, alloc, 289)?, (41_616, Ok(3_981_264)));
+    assert_eq!(rt; counts_of(&rt, alloc, 290)?, (41_905, Err(TriStop::Dense)));
     let points = parabola(alloc, 895)?;
-    let hull = sweep(alloc, &points)
-        .map_err(|_| Fail::from("no memory"))?
-        .hull;
+    let hull = swept(alloc, &points)?.hull;
     let stop = Elimination::of(&rt, alloc, &points, &hull).err();
     assert_eq!(rt; stop, Some(SolveStop::DenseEdges));
     Ok(())

@@ -1,11 +1,10 @@
 // Single calls of the libraries below.
 
-use crate::shortening::shortened;
-use crate::tests::{list_of, points_of};
+use crate::tests::{list_of, points_of, shortest, swept};
 use exact_predicates::{Edge, Point, PointList, Points, PointsStop, d2, orient};
-use hull_sweep::sweep;
 use length_enclosure::{enclosure, is_square, root_floor, weight, write_units};
 use std::alloc::Global;
+use std::process::Abort;
 use std::test::Fail;
 
 #[test]
@@ -121,21 +120,21 @@ fn made_points(alloc: Global, count: u32) -> Result<Points, Fail> {
 // The triangulation of many points stays one by its numbers, and gets shorter.
 #[test]
 fn shortening_of_made_points(rt: HostRuntime) -> Result<(), Fail> {
-    let alloc = rt.alloc();
     for count in [10, 300, 10_000] {
-        let points = made_points(alloc, count)?;
-        let start = sweep(alloc, &points).map_err(|_| Fail::from("no memory"))?;
-        let before = enclosure(&points, &start.hull, &start.tris);
-        let tris = shortened(alloc, &points, &start.hull, &start.tris).map_err(|_| Fail::from(
-            "no memory",
-        ))?;
-        let after = enclosure(&points, &start.hull, &tris);
-        assert_eq!(rt; tris.len(), start.tris.len());
-        assert!(rt; after.hi < before.lo, "{count}");
-        let again = shortened(alloc, &points, &start.hull, &tris).map_err(|_| Fail::from(
-            "no memory",
-        ))?;
-        assert!(rt; again.as_slice() == tris.as_slice());
+        shortens_made_points(&rt, rt.alloc(), count)?;
     }
+    Ok(())
+}
+
+fn shortens_made_points(rt: &impl Abort, alloc: Global, count: u32) -> Result<(), Fail> {
+    let points = made_points(alloc, count)?;
+    let start = swept(alloc, &points)?;
+    let tris = shortest(alloc, &points, &start.hull, &start.tris)?;
+    assert_eq!(rt; tris.len(), start.tris.len());
+    let before = enclosure(&points, &start.hull, &start.tris);
+    let after = enclosure(&points, &start.hull, &tris);
+    assert!(rt; after.hi < before.lo, "{count}");
+    let again = shortest(alloc, &points, &start.hull, &tris)?;
+    assert!(rt; again.as_slice() == tris.as_slice());
     Ok(())
 }

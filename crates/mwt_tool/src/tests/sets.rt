@@ -1,9 +1,7 @@
 // Sets of points whose hull and triangulation are tried against the definitions, by a plain program.
 
-use crate::shortening::shortened;
-use crate::tests::points_of;
+use crate::tests::{points_of, shortest, swept};
 use exact_predicates::{Point, Points, Tri};
-use hull_sweep::sweep;
 use std::test::Fail;
 
 pub fn at(points: &Points, number: u32) -> Option<&Point> {
@@ -227,13 +225,11 @@ fn sets_of_every_shape(rt: HostRuntime) -> Result<(), Fail> {
     let alloc = rt.alloc();
     for places in SETS {
         let points = points_of(alloc, places)?;
-        let start = sweep(alloc, &points).map_err(|_| Fail::from("no memory"))?;
+        let start = swept(alloc, &points)?;
         let (hull, first) = (start.hull.as_slice(), start.tris.as_slice());
         assert!(rt; is_hull(&points, hull), "{places:?}");
         assert!(rt; is_triangulation(&points, hull, first), "{places:?}");
-        let tris = shortened(alloc, &points, &start.hull, &start.tris).map_err(|_| Fail::from(
-            "no memory",
-        ))?;
+        let tris = shortest(alloc, &points, &start.hull, &start.tris)?;
         assert!(rt;
             is_triangulation(&points, hull, tris.as_slice()),
             "{places:?}"
