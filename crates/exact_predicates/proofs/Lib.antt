@@ -1,11 +1,13 @@
 pub mod Ascending
 pub mod Barycentric
 pub mod Between
+pub mod Bounds
 pub mod Chains
 pub mod Codes
 pub mod Corners
 pub mod Counts
 pub mod DistinctIds
+pub mod EdgeCounts
 pub mod Elements
 pub mod Equalities
 pub mod Few
@@ -15,10 +17,13 @@ pub mod FlipSums
 pub mod Flips
 pub mod Gaps
 pub mod HalfPlane
+pub mod HullPairs
 pub mod InRange
 pub mod IntSigns
+pub mod Leasts
 pub mod Line
 pub mod ListFacts
+pub mod Minimums
 pub mod Numbers
 pub mod Order
 pub mod Orientation
@@ -30,6 +35,8 @@ pub mod Reordered
 pub mod Ring
 pub mod Rings
 pub mod Roots
+pub mod Scales
 pub mod Sides
+pub mod TriCodes
 pub mod Triangles
 pub mod Triangulations

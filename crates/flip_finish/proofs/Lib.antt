@@ -1,6 +1,5 @@
 pub mod AllSides
 pub mod Attaching
-pub mod EdgeCounts
 pub mod Faces
 pub mod Fitting
 pub mod FlipAnswers

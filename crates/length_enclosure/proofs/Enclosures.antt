@@ -1,6 +1,6 @@
 -- The length of a list of edges lies between `lo` and `hi`.
-use Rattle.std.proofs.Common.{◌≡◌, ℕ, suc, ◌+◌, ◌*◌, ◌^◌, ◌<◌, ◌≤◌, not, cond, List, [], ◌∷◌, sum_by, arith, ap, ⊎_elim, pos}
-use Rattle.std.proofs.lemmas.Bool.{cases_lt, cases_Bool}
+use Rattle.std.proofs.Common.{◌≡◌, ℕ, ◌+◌, ◌*◌, ◌^◌, ◌<◌, ◌≤◌, not, cond, List, [], ◌∷◌, sum_by, arith, ap, ⊎_elim, pos}
+use Rattle.std.proofs.lemmas.Bool.{cases_Bool}
 use Rattle.std.proofs.lemmas.Nat.{mul-le}
 use Rattle.std.proofs.lemmas.Int.{ints}
 use Rattle.std.proofs.lemmas.List.Sums.{sum_by-cons}
@@ -8,15 +8,12 @@ use Rattle.exact_predicates.specs.declared.point.Point.{Point}
 use Rattle.exact_predicates.specs.Root.{root_down, root_up, is_square}
 use Rattle.exact_predicates.specs.Length.{edge_d2, length_up, length_down, IsAtLeast, IsAtMost}
 use Rattle.length_enclosure.specs.Enclosure.{weight, lo, hi}
-use Rattle.exact_predicates.proofs.Roots.{pow-two, below-square, root_down_is, root_up_is, root_down_next, is_square_decides}
-
-pub le-square : (a b : ℕ) → a * a ≤ b * b → a ≤ b
-le-square a b h = ⊎_elim (λ l. absurd (omega (arith, mul-le (suc b) (suc b) a a l l))) (λ l. l) (cases_lt b a)
+use Rattle.exact_predicates.proofs.Roots.{pow-two, below-square, le-square, root_down_is, root_up_is, root_down_next, is_square_decides}
 
 mul-square : (m w : ℕ) → (m * w) * (m * w) ≡ (m * m) * (w * w)
 mul-square m w = omega arith
 
-scale-le : (k a b : ℕ) → a ≤ b → k * a ≤ k * b
+pub scale-le : (k a b : ℕ) → a ≤ b → k * a ≤ k * b
 scale-le k a b h = mul-le k a k b (omega arith) h
 
 pub scaled_up : (m d : ℕ) → m * root_down (10 ^ 12 * d) ≤ root_up ((10 ^ 6 * m) ^ 2 * d)

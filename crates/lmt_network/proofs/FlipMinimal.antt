@@ -18,6 +18,7 @@ use Rattle.exact_predicates.specs.Triangulation.{HasCorners, IsCorner, IsEmpty, 
 use Rattle.exact_predicates.specs.Flip.{IsMinimalBetween, IsMinimalIn}
 use Rattle.exact_predicates.specs.Candidates.{EdgePrecedes, Joins, HasEdge, IsCandidate, IsEmptyOver}
 use Rattle.exact_predicates.proofs.Between.{IsBetween-turned}
+use Rattle.exact_predicates.proofs.Corners.{turned_corners}
 use Rattle.exact_predicates.proofs.Elements.{Any-append_left, Any-append_right, Any-append_cases, Any-weaker}
 use Rattle.exact_predicates.proofs.Equalities.{Joins-comm, HasEdge-Contains}
 use Rattle.exact_predicates.proofs.Pairs.{is_pair_decides, is_inner_decides}
@@ -58,7 +59,7 @@ inner-edge hull tris e u v joins up none has =
     let (k, k_in, at_k) = filter-to (is_inner hull) (flat_map sides tris) (u, v) has ((is_inner_decides hull u v).1 (up, none)) in
     Any-append_right (λ s. Joins e s.0 s.1) (ring_pairs hull) (filter (is_inner hull) (flat_map sides tris)) (k, (u, v), k_in, at_k, joins)
 
-pair-or-not : (hull : List ℕ) (u v : ℕ) → IsHullPair hull u v ⊎ (¬ IsHullPair hull u v)
+pub pair-or-not : (hull : List ℕ) (u v : ℕ) → IsHullPair hull u v ⊎ (¬ IsHullPair hull u v)
 pair-or-not hull u v =
     let d = is_pair_decides hull u v in
     ⊎_elim (λ t. inl (d.0 t)) (λ f. inr (λ p. false≢true (sym f ∙ d.1 p))) (cases_Bool (list_any (is_side u v) (ring_pairs hull)))
@@ -72,7 +73,7 @@ edge-between u v apart =
     (cases_lt u v)
 
 -- each side of a triangulation is an edge of it
-side-edge : (ps : List Point) (hull : List ℕ) (tris : List Tri) (e : Edge) (u v : ℕ) → IsTriangulation ps hull tris → Joins e u v → u ≢ v → Contains (flat_map sides tris) (u, v) → IsEdgeOf hull tris e
+pub side-edge : (ps : List Point) (hull : List ℕ) (tris : List Tri) (e : Edge) (u v : ℕ) → IsTriangulation ps hull tris → Joins e u v → u ≢ v → Contains (flat_map sides tris) (u, v) → IsEdgeOf hull tris e
 side-edge ps hull tris e u v t joins apart has =
     ⊎_elim
     (λ p. pair-edge hull tris e u v joins p)
@@ -88,9 +89,10 @@ side-edge ps hull tris e u v t joins apart has =
     (pair-or-not hull v u))
     (pair-or-not hull u v)
 
--- a triangle of the list stands over the edges of the triangulation
-tri-over : (ps : List Point) (hull : List ℕ) (tris : List Tri) (es : List Edge) (t : Tri) → IsTriangulation ps hull tris → AreEdgesOf hull tris es → Contains tris t → IsEmptyOver ps es t
-tri-over ps hull tris es t are edges_are (k, k_in, at_k) =
+-- a triangle of the list stands over a list that has the edges of the triangulation
+pub tri-over : (ps : List Point) (hull : List ℕ) (tris : List Tri) (es : List Edge) (t : Tri) → IsTriangulation ps hull tris → ((e : Edge) → IsEdgeOf hull tris e → Contains es e)
+    → Contains tris t → IsEmptyOver ps es t
+tri-over ps hull tris es t are edges_in (k, k_in, at_k) =
     record {
       empty = All-contains (IsEmpty ps) tris t are.empty (k, k_in, at_k);
       ab = at t.a t.b (omega (arith, t.below_b)) (t.c, inl (refl, refl, refl));
@@ -101,7 +103,7 @@ tri-over ps hull tris es t are edges_are (k, k_in, at_k) =
     at : (u v : ℕ) → u ≢ v → HasSide t u v → HasEdge es u v
     at u v apart side =
         let e = edge-between u v apart in
-        HasEdge-Contains es e.0 u v e.1 (edges_are.all e.0 (side-edge ps hull tris e.0 u v are e.1 apart (side-to tris u v (k, t, k_in, at_k, side))))
+        HasEdge-Contains es e.0 u v e.1 (edges_in e.0 (side-edge ps hull tris e.0 u v are e.1 apart (side-to tris u v (k, t, k_in, at_k, side))))
 
 -- the support of an inner edge of a flip-minimal triangulation
 support : (ps : List Point) (hull : List ℕ) (tris : List Tri) (es : List Edge) (e : Edge) (u v : ℕ) → IsTriangulation ps hull tris → AreEdgesOf hull tris es → Joins e u v → u < v → IsMinimalIn ps tris u v → HasSupport ps es e
@@ -117,8 +119,8 @@ support ps hull tris es e u v are edges_are joins up m =
       b = m.b;
       left_is = subst (λ (x : ℕ). HasCorners left x e.b m.a) a_is (subst (λ (y : ℕ). HasCorners left u y m.a) b_is left_is);
       right_is = subst (λ (y : ℕ). HasCorners right y e.a m.b) b_is (subst (λ (x : ℕ). HasCorners right v x m.b) a_is right_is);
-      left_over = tri-over ps hull tris es left are edges_are (i, i_in, at_i);
-      right_over = tri-over ps hull tris es right are edges_are (j, j_in, at_j);
+      left_over = tri-over ps hull tris es left are edges_are.all (i, i_in, at_i);
+      right_over = tri-over ps hull tris es right are edges_are.all (j, j_in, at_j);
       minimal = subst (λ (x : ℕ). IsMinimalBetween ps x e.b m.a m.b) a_is (subst (λ (y : ℕ). IsMinimalBetween ps u y m.a m.b) b_is m.minimal);
     }
 
@@ -159,14 +161,14 @@ is_joined-decides : (e : Edge) (s : ℕ × ℕ) → Decides (is_joined e s) (Joi
 is_joined-decides e s = Decides-and _ _ (Decides-eqb e.a (min s.0 s.1)) (Decides-eqb e.b (max s.0 s.1))
 
 -- whether e is an edge of the triangulation
-abbrev is_edge : List ℕ → List Tri → Edge → Bool
+abbrev pub is_edge : List ℕ → List Tri → Edge → Bool
 is_edge hull tris e = list_any (is_joined e) (edges hull tris)
 
-is_edge-from : (hull : List ℕ) (tris : List Tri) (e : Edge) → is_edge hull tris e ≡ true → IsEdgeOf hull tris e
+pub is_edge-from : (hull : List ℕ) (tris : List Tri) (e : Edge) → is_edge hull tris e ≡ true → IsEdgeOf hull tris e
 is_edge-from hull tris e h =
     Any-weaker (λ s. is_joined e s ≡ true) (λ s. Joins e s.0 s.1) (λ s t. (is_joined-decides e s).0 t) (edges hull tris) (Any-from_list_any (is_joined e) (edges hull tris) h)
 
-is_edge-to : (hull : List ℕ) (tris : List Tri) (e : Edge) → IsEdgeOf hull tris e → is_edge hull tris e ≡ true
+pub is_edge-to : (hull : List ℕ) (tris : List Tri) (e : Edge) → IsEdgeOf hull tris e → is_edge hull tris e ≡ true
 is_edge-to hull tris e h =
     list_any-from_Any (is_joined e) (edges hull tris) (Any-weaker (λ s. Joins e s.0 s.1) (λ s. is_joined e s ≡ true) (λ s t. (is_joined-decides e s).1 t) (edges hull tris) h)
 
@@ -179,10 +181,6 @@ live-law ps hull diamond tris candidates live f are_candidates candidates_are is
       all = λ x is. filter-to (is_edge hull tris) candidates x (candidates_are.all x (are_candidates x is)) (is_edge-to hull tris x is);
     } in
     All-contains (Contains live) es e (is_live.greatest es (closed-law ps hull diamond tris es f are_candidates edges_are)) (edges_are.all e h)
-
--- a triangle's corners from the next one on
-turned : (t : Tri) (u v w : ℕ) → HasCorners t u v w → HasCorners t v w u
-turned t u v w h = ⊎_elim (λ c. inr (inl (c.1, c.2, c.0))) (λ m. ⊎_elim (λ c. inr (inr (c.1, c.2, c.0))) (λ c. inl (c.1, c.2, c.0)) m) h
 
 -- where a point lies in the triangle, from any corner on
 inside-turned : (ps : List Point) (t : Tri) (u v w : ℕ) (r : Point) → HasCorners t u v w → IsInClosedTriangle (point_at ps u) (point_at ps v) (point_at ps w) r
@@ -259,6 +257,6 @@ candidates-law ps hull tris hull_is are e h =
         let (k, t, k_in, at_k, side) = side-from tris u v (filter-from (is_inner hull) (flat_map sides tris) (u, v) has).0 in
         let w = side.0 in
         let empty = All-contains (IsEmpty ps) tris t are.empty (k, k_in, at_k) in
-        let u_in = (turned-empty ps t v w u empty (turned t u v w side.1)).0 in
-        let v_in = (turned-empty ps t w u v empty (turned t v w u (turned t u v w side.1))).0 in
+        let u_in = (turned-empty ps t v w u empty (turned_corners t u v w side.1)).0 in
+        let v_in = (turned-empty ps t w u v empty (turned_corners t v w u (turned_corners t u v w side.1))).0 in
         candidate-off ps hull e u v joins u_in v_in (λ r r_in. none-between ps t u v w r empty side.1 r_in)

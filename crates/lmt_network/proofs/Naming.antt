@@ -72,7 +72,7 @@ numbers-of n (f ∷ fs) up known =
     )
 
 -- the number of a triangle over fewer edges
-tri-number : (n : NetworkParts) (fs : List Edge) (t : Tri) → IsNetwork n → ((f : Edge) → Contains fs f → Contains n.edges f) → IsEmptyOver n.points fs t → Contains n.tris t
+pub tri-number : (n : NetworkParts) (fs : List Edge) (t : Tri) → IsNetwork n → ((f : Edge) → Contains fs f → Contains n.edges f) → IsEmptyOver n.points fs t → Contains n.tris t
 tri-number n fs t net known over =
     net.tris_are.all t (record {
       empty = over.empty;
@@ -85,7 +85,7 @@ tri-number n fs t net known over =
     wider u v (k, e, k_in, at_k, h) = HasEdge-Contains n.edges e u v h (known e (k, k_in, at_k))
 
 -- a side of a triangle over named edges has its number among theirs
-side-named : (n : NetworkParts) (es : List ℕ) (fs : List Edge) (t f : ℕ) → AreNamed n es fs → IsEmptyOver n.points fs (tri_at n t) → IsSideOf n t f → Contains es f
+pub side-named : (n : NetworkParts) (es : List ℕ) (fs : List Edge) (t f : ℕ) → AreNamed n es fs → IsEmptyOver n.points fs (tri_at n t) → IsSideOf n t f → Contains es f
 side-named n es fs t f named over h =
     ⊎_elim
     (λ k. at (tri_at n t).a (tri_at n t).b over.ab k)
@@ -133,7 +133,7 @@ closed-numbers n diamond es fs net named closed =
     ))
 
 -- a triangle whose sides, but for one that is among the named edges, have their numbers among theirs
-over-named : (n : NetworkParts) (es : List ℕ) (fs : List Edge) (e t : ℕ) → IsNetwork n → AreNamed n es fs → t < length n.tris → Contains es e
+pub over-named : (n : NetworkParts) (es : List ℕ) (fs : List Edge) (e t : ℕ) → IsNetwork n → AreNamed n es fs → t < length n.tris → Contains es e
     → ((f : ℕ) → f ≢ e → IsSideOf n t f → Contains es f) → IsEmptyOver n.points fs (tri_at n t)
 over-named n es fs e t net named t_in has others =
     let over : IsEmptyOver n.points n.edges (tri_at n t) = net.tris_are.each t _ t_in in

@@ -1,8 +1,15 @@
+pub mod Bounds
 pub mod Flags
 pub mod FlipMinimal
 pub mod Inside
 pub mod Live
+pub mod LiveSuffices
+pub mod Minimum
 pub mod Network
 pub mod Numbers
+pub mod PriceTables
+pub mod Prices
+pub mod Skeleton
+pub mod SkeletonExample
 pub mod Tables
 pub mod Uniqueness

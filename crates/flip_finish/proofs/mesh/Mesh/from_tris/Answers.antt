@@ -1,7 +1,7 @@
 use Rattle.std.proofs.Common.{subst, sym, ap, ◌∙◌}
 use Rattle.exact_predicates.specs.Triangulation.{IsTriangulation, edges}
+use Rattle.exact_predicates.proofs.EdgeCounts.{edge_count-sides}
 use Rattle.flip_finish.specs.Mesh.{edge_count}
-use Rattle.flip_finish.proofs.EdgeCounts.{edge_count-sides}
 use Rattle.flip_finish.proofs.HullSums.{sides_met}
 use Rattle.flip_finish.proofs.mesh.Mesh.from_tris.Goals as goal
 

@@ -1,19 +1,21 @@
 -- How often an edge occurs in a triangulation.
-use Rattle.std.proofs.Common.{◌≡◌, ℕ, ◌+◌, ◌<◌, Bool, true, false, cond, List, sum_by, filter, flat_map, arith, ap, sym, ◌∙◌, refl, ⊎_elim}
+use Rattle.std.proofs.Common.{◌≡◌, ℕ, ◌+◌, ◌<◌, Bool, true, false, cond, List, [], ◌∷◌, sum_by, filter, flat_map, arith, ap, sym, ◌∙◌, refl, ⊎_elim}
 use Rattle.std.specs.List.{list_any}
 use Rattle.std.proofs.lemmas.Bool.{both_ways, cases_Bool, cases_lt, cond-false, cond-true}
-use Rattle.std.proofs.lemmas.List.Sums.{sum_by-append}
+use Rattle.std.proofs.lemmas.List.Sums.{sum_by-append, sum_by-cons}
 use Rattle.exact_predicates.specs.declared.point.Point.{Point}
 use Rattle.exact_predicates.specs.declared.tri.Tri.{Tri}
 use Rattle.exact_predicates.specs.Hull.{IsHull, IsHullPair, ring_pairs}
 use Rattle.exact_predicates.specs.Triangulation.{IsTriangulation, edges, hit, is_inner, is_side, side_count, sides}
 use Rattle.exact_predicates.proofs.Counts.{hit-some}
 use Rattle.exact_predicates.proofs.Elements.{sum_by-none}
+use Rattle.exact_predicates.proofs.HullPairs.{pair_none, pair_once}
 use Rattle.exact_predicates.proofs.Pairs.{is_inner_decides, is_pair_decides}
 use Rattle.exact_predicates.proofs.Sides.{sum_by-filter}
-use Rattle.flip_finish.specs.Mesh.{edge_count}
-use Rattle.flip_finish.proofs.HullSums.{pair_none, pair_once}
-use Rattle.flip_finish.proofs.SideSums.{sum_by-same}
+
+either : (b : Bool) → cond {A = ℕ} b 0 0 ≡ 0
+either true = refl
+either false = refl
 
 -- a side that does not pass is not counted
 uncounted : (hull : List ℕ) (x y : ℕ) → is_inner hull (x, y) ≡ false → (s : ℕ × ℕ) → cond (is_inner hull s) (hit x y s) 0 ≡ 0
@@ -24,10 +26,6 @@ uncounted hull x y out s =
     let e = hit-some x y s.0 s.1 l in
     cond-false (is_inner hull s) (hit x y s) 0 (ap (λ n. is_inner hull (n, s.1)) e.0 ∙ (ap (λ n. is_inner hull (x, n)) e.1 ∙ out)))
     (cases_lt (hit x y s) 1)
-  where
-    either : (b : Bool) → cond {A = ℕ} b 0 0 ≡ 0
-    either true = refl
-    either false = refl
 
 -- and one that does is
 counted : (hull : List ℕ) (x y : ℕ) → is_inner hull (x, y) ≡ true → (s : ℕ × ℕ) → cond (is_inner hull s) (hit x y s) 0 ≡ hit x y s
@@ -38,26 +36,27 @@ counted hull x y inner s =
     let e = hit-some x y s.0 s.1 l in
     cond-true (is_inner hull s) (hit x y s) 0 (ap (λ n. is_inner hull (n, s.1)) e.0 ∙ (ap (λ n. is_inner hull (x, n)) e.1 ∙ inner)))
     (cases_lt (hit x y s) 1)
-  where
-    either : (b : Bool) → cond {A = ℕ} b 0 0 ≡ 0
-    either true = refl
-    either false = refl
 
-inner_none : (hull : List ℕ) (tris : List Tri) (x y : ℕ) → is_inner hull (x, y) ≡ false → sum_by (hit x y) (filter (is_inner hull) (flat_map sides tris)) ≡ 0
+-- so how often a side is inner
+pub inner_none : (hull : List ℕ) (tris : List Tri) (x y : ℕ) → is_inner hull (x, y) ≡ false → sum_by (hit x y) (filter (is_inner hull) (flat_map sides tris)) ≡ 0
 inner_none hull tris x y out =
     sum_by-filter (hit x y) (is_inner hull) (flat_map sides tris)
     ∙ sum_by-none (λ s. cond (is_inner hull s) (hit x y s) 0) (flat_map sides tris) (λ k d l. uncounted hull x y out _)
 
-inner_all : (hull : List ℕ) (tris : List Tri) (x y : ℕ) → is_inner hull (x, y) ≡ true → sum_by (hit x y) (filter (is_inner hull) (flat_map sides tris)) ≡ side_count tris x y
-inner_all hull tris x y inner =
-    sum_by-filter (hit x y) (is_inner hull) (flat_map sides tris) ∙ sum_by-same _ (hit x y) (counted hull x y inner) (flat_map sides tris)
+pub inner_all : (hull : List ℕ) (tris : List Tri) (x y : ℕ) → is_inner hull (x, y) ≡ true → sum_by (hit x y) (filter (is_inner hull) (flat_map sides tris)) ≡ side_count tris x y
+inner_all hull tris x y inner = sum_by-filter (hit x y) (is_inner hull) (flat_map sides tris) ∙ all (flat_map sides tris)
+  where
+    all : (xs : List (ℕ × ℕ)) → sum_by (λ s. cond (is_inner hull s) (hit x y s) 0) xs ≡ sum_by (hit x y) xs
+    all [] = refl
+    all (s ∷ xs) =
+        omega (arith, sum_by-cons (λ s. cond (is_inner hull s) (hit x y s) 0) s xs, sum_by-cons (hit x y) s xs, counted hull x y inner s, all xs)
 
-not_inner : (hull : List ℕ) (x y : ℕ) → ¬ ((x < y) × (¬ IsHullPair hull x y)) → is_inner hull (x, y) ≡ false
+pub not_inner : (hull : List ℕ) (x y : ℕ) → ¬ ((x < y) × (¬ IsHullPair hull x y)) → is_inner hull (x, y) ≡ false
 not_inner hull x y h = ⊎_elim (λ e. absurd (h ((is_inner_decides hull x y).0 e))) (λ e. e) (cases_Bool (is_inner hull (x, y)))
 
 -- an edge occurs as often as its side that goes up, and the outer side of the hull
 pub edge_count-sides : (ps : List Point) (hull : List ℕ) (tris : List Tri) (x y : ℕ) → IsHull ps hull → IsTriangulation ps hull tris → x < y
-    → side_count tris x y + sum_by (hit y x) (ring_pairs hull) ≡ edge_count (edges hull tris) x y
+    → side_count tris x y + sum_by (hit y x) (ring_pairs hull) ≡ sum_by (hit x y) (edges hull tris) + sum_by (hit y x) (edges hull tris)
 edge_count-sides ps hull tris x y h t up =
     let forth = sum_by-append (hit x y) (ring_pairs hull) (filter (is_inner hull) (flat_map sides tris)) in
     let back = sum_by-append (hit y x) (ring_pairs hull) (filter (is_inner hull) (flat_map sides tris)) in
