@@ -22,6 +22,7 @@ pub IsElimination-built : (ps : List Point) (hull : List ℕ) (es : List Edge) (
 IsElimination-built ps hull es ts net flags e candidates few_edges triangles few_triangles =
     let P : NetworkParts → Type 0 = λ n. length flags ≡ length n.edges → LeavesLive n flags → IsElimination ps hull n flags in
     subst P (sym e) (λ one_each live. record {
+      points_are = refl;
       hull_is = refl;
       candidates = candidates;
       few_edges = few_edges;

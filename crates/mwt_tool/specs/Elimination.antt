@@ -31,6 +31,7 @@ pub record IsWithinLimits (ps : List Point) : Type 0 where
 
 -- The network is that of the points with this hull, and its live edges are those of the points.
 pub record IsElimination (ps : List Point) (hull : List ℕ) (net : NetworkParts) (flags : List Bool) : Type 0 where
+  pub points_are : net.points ≡ ps
   pub hull_is : net.hull ≡ hull
   pub candidates : AreCandidates ps hull Off net.edges
   pub few_edges : length net.edges ≤ 400000

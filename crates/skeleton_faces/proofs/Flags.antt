@@ -1,0 +1,65 @@
+-- Flags that fall, and what flags choose.
+use Rattle.std.proofs.Common.{◌≡◌, ◌⊎◌, ℕ, zero, suc, ◌+◌, ◌<◌, ◌≤◌, Bool, true, false, List, [], ◌∷◌, ◌++◌, length, get_or, set, take, refl, inl, inr, ⊎_elim, ap, sym, add-one, arith}
+use Rattle.std.proofs.lemmas.Bool.{false≢true}
+use Rattle.std.specs.List.{items_where_true}
+
+-- a flag stays down
+pub stays_down : (flags : List Bool) (i k : ℕ) → get_or flags k false ≡ false → get_or (set flags i false) k false ≡ false
+stays_down [] i k h = h
+stays_down (b ∷ bs) zero zero h = refl
+stays_down (b ∷ bs) zero (suc k) h = h
+stays_down (b ∷ bs) (suc i) zero h = h
+stays_down (b ∷ bs) (suc i) (suc k) h = stays_down bs i k h
+
+pub is_down : (flags : List Bool) (i : ℕ) → get_or (set flags i false) i false ≡ false
+is_down [] i = refl
+is_down (b ∷ bs) zero = refl
+is_down (b ∷ bs) (suc i) = is_down bs i
+
+-- and no other falls
+pub fell : (flags : List Bool) (i k : ℕ) → get_or (set flags i false) k false ≡ false → (k ≡ i) ⊎ (get_or flags k false ≡ false)
+fell [] i k h = inr h
+fell (b ∷ bs) zero zero h = inl refl
+fell (b ∷ bs) zero (suc k) h = inr h
+fell (b ∷ bs) (suc i) zero h = inr h
+fell (b ∷ bs) (suc i) (suc k) h = ⊎_elim (λ e. inl (ap suc e)) (λ d. inr d) (fell bs i k h)
+
+module _ {X : Type 0} where
+  -- what is chosen from nothing
+  pub chosen-none : (flags : List Bool) → items_where_true {X = X} flags [] ≡ []
+  chosen-none [] = refl
+  chosen-none (b ∷ bs) = refl
+
+  -- no more are chosen than there are
+  pub length-chosen : (flags : List Bool) (xs : List X) → length (items_where_true flags xs) ≤ length xs
+  length-chosen [] xs = omega arith
+  length-chosen (b ∷ bs) [] = omega arith
+  length-chosen (true ∷ bs) (x ∷ xs) = let h = length-chosen bs xs in omega arith
+  length-chosen (false ∷ bs) (x ∷ xs) = let h = length-chosen bs xs in omega arith
+
+  -- one item more, with its flag up
+  pub chosen-up : (flags : List Bool) (xs : List X) (k : ℕ) (d : X) → k < length xs → get_or flags k false ≡ true
+      → items_where_true flags (take (k + 1) xs) ≡ items_where_true flags (take k xs) ++ get_or xs k d ∷ []
+  chosen-up flags xs k d k_in h = rw (add-one) (at flags xs k k_in h)
+    where
+      at : (bs : List Bool) (ys : List X) (j : ℕ) → j < length ys → get_or bs j false ≡ true → items_where_true bs (take (suc j) ys) ≡ items_where_true bs (take j ys) ++ get_or ys j d ∷ []
+      at [] ys j l e = absurd (false≢true e)
+      at (b ∷ bs) [] j l e = absurd (omega arith)
+      at (true ∷ bs) (y ∷ ys) zero l e = ap (λ zs. y ∷ zs) (chosen-none bs)
+      at (false ∷ bs) (y ∷ ys) zero l e = absurd (false≢true e)
+      at (true ∷ bs) (y ∷ ys) (suc j) l e = ap (λ zs. y ∷ zs) (at bs ys j (omega arith) e)
+      at (false ∷ bs) (y ∷ ys) (suc j) l e = at bs ys j (omega arith) e
+
+  -- and with its flag down
+  pub chosen-down : (flags : List Bool) (xs : List X) (k : ℕ) → get_or flags k false ≡ false
+      → items_where_true flags (take (k + 1) xs) ≡ items_where_true flags (take k xs)
+  chosen-down flags xs k h = rw (add-one) (at flags xs k h)
+    where
+      at : (bs : List Bool) (ys : List X) (j : ℕ) → get_or bs j false ≡ false → items_where_true bs (take (suc j) ys) ≡ items_where_true bs (take j ys)
+      at [] ys j e = refl
+      at (b ∷ bs) [] zero e = refl
+      at (b ∷ bs) [] (suc j) e = refl
+      at (true ∷ bs) (y ∷ ys) zero e = absurd (false≢true (sym e))
+      at (false ∷ bs) (y ∷ ys) zero e = chosen-none bs
+      at (true ∷ bs) (y ∷ ys) (suc j) e = ap (λ zs. y ∷ zs) (at bs ys j e)
+      at (false ∷ bs) (y ∷ ys) (suc j) e = at bs ys j e

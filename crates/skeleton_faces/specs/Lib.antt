@@ -1,0 +1,9 @@
+pub mod Faces
+pub mod Groups
+pub mod Marks
+pub mod Rays
+pub mod Rounds
+pub mod Sides
+pub mod Tables
+pub mod Turning
+pub mod Walks
