@@ -1,0 +1,46 @@
+-- The ends of the edge with a number, and the edges of the hull.
+use Rattle.std.proofs.Common.{◌≡◌, ◌≢◌, ◌⊎◌, ℕ, ◌+◌, ◌<◌, ◌≤◌, List, ℤ, of_z, to_z, w64, sym, ◌∙◌, subst, arith, ⊎_elim, inl, inr}
+use Rattle.std.proofs.lemmas.Bool.{cases_lt}
+use Rattle.std.proofs.lemmas.Int.{ints}
+use Rattle.exact_predicates.specs.declared.edge.Edge.{Edge}
+use Rattle.exact_predicates.specs.declared.point.Point.{Point}
+use Rattle.exact_predicates.specs.Candidates.{Joins}
+use Rattle.exact_predicates.specs.Hull.{IsHull, IsHullPair}
+use Rattle.exact_predicates.proofs.Rings.{place_of_pair}
+use Rattle.lmt_network.specs.Network.{IsNetwork, NetworkParts, edge_at}
+use Rattle.lmt_network.specs.Numbers.{IsNumberOf}
+use Rattle.lmt_network.proofs.FlipMinimal.{edge-between, hull-edge}
+use Rattle.lmt_network.proofs.Naming.{read-member}
+use Rattle.price_ascent.specs.Steps.{IsSlack}
+
+pub ends-up : (n : NetworkParts) (e u v : ℕ) → IsNumberOf n u v e → u < v → ((edge_at n e).a ≡ u) × ((edge_at n e).b ≡ v)
+ends-up n e u v is l = let low = is.1.0 in let high = is.1.1 in (omega arith, omega arith)
+
+pub ends-down : (n : NetworkParts) (e u v : ℕ) → IsNumberOf n u v e → v ≤ u → ((edge_at n e).b ≡ u) × ((edge_at n e).a ≡ v)
+ends-down n e u v is l = let low = is.1.0 in let high = is.1.1 in (omega arith, omega arith)
+
+-- the two members of a pair of the hull are two points
+pub hull-apart : (ps : List Point) (hull : List ℕ) (u v : ℕ) → IsHull ps hull → IsHullPair hull u v → u ≢ v
+hull-apart ps hull u v hull_is p same =
+    let (k, k_in, at_k, next) = place_of_pair hull u v p in
+    let three = hull_is.three in
+    ⊎_elim
+    (λ n. hull_is.distinct k (k + 1) 0 (omega arith) n.0 (at_k ∙ (same ∙ sym n.1)))
+    (λ n. hull_is.distinct 0 k 0 (omega (arith, n.0)) k_in (n.1 ∙ (sym same ∙ sym at_k)))
+    next
+
+-- and have an edge of the network
+pub hull-number-there : (n : NetworkParts) (u v : ℕ) → IsNetwork n → IsHullPair n.hull u v → (e : ℕ) × IsNumberOf n u v e
+hull-number-there n u v net pair =
+    let e = edge-between u v (hull-apart n.points n.hull u v net.hull_is pair) in
+    let k = net.hull_edges e.0 (hull-edge n.hull e.0 u v e.1 pair) in
+    (k.0, (k.1, subst (λ (x : Edge). Joins x u v) (sym (read-member n.edges e.0 _ k)) e.1))
+
+pub hull-order : (n : NetworkParts) (u v : ℕ) → IsNetwork n → IsHullPair n.hull u v → (u < v) ⊎ (v < u)
+hull-order n u v net pair =
+    let apart = hull-apart n.points n.hull u v net.hull_is pair in
+    ⊎_elim (λ l. inl l) (λ l. inr (omega arith)) (cases_lt u v)
+
+-- a least slack as it is written
+pub least-is : (m : ℤ) → IsSlack m → to_z w64 (of_z w64 m) ≡ m
+least-is m h = let low = h.0 in let high = h.1 in omega (arith, ints, low, high)

@@ -1,0 +1,61 @@
+-- What is kept of the edges, read as a table of prices.
+use Rattle.std.proofs.Common.{◌≡◌, ℕ, zero, suc, ◌<◌, true, false, cond, nat_lt, List, [], ◌∷◌, length, get_or, map, Contains, ℤ, ◌-ℤ◌, refl, ap, sym, ◌∙◌, arith}
+use Rattle.exact_predicates.specs.declared.point.Point.{Point}
+use Rattle.lmt_network.specs.Flags.{live_numbers}
+use Rattle.lmt_network.specs.Network.{IsNetwork, NetworkParts, edge_at}
+use Rattle.lmt_network.specs.Numbers.{IsNumberOf}
+use Rattle.lmt_network.specs.PriceTables.{IsByNumber, entry_at}
+use Rattle.lmt_network.specs.Prices.{Priced, is_on_hull, priced, share, weight_between}
+use Rattle.lmt_network.proofs.Picked.{all-from-members, flag-from_live, flag_in, live-from_flag}
+use Rattle.lmt_network.proofs.PriceTables.{by_number-law}
+use Rattle.std.proofs.lemmas.List.{length-map}
+use Rattle.price_ascent.specs.declared.entry.Entry.{Entry}
+use Rattle.price_ascent.specs.Entries.{entry, live_of, no_entry, prices_of, table_of}
+
+-- an element of a mapped list, also past its end
+pub get_or-mapped : {X Y : Type 0} (f : X → Y) (xs : List X) (k : ℕ) (d : X) → get_or (map f xs) k (f d) ≡ f (get_or xs k d)
+get_or-mapped f [] k d = refl
+get_or-mapped f (x ∷ xs) zero d = refl
+get_or-mapped f (x ∷ xs) (suc k) d = get_or-mapped f xs k d
+
+pub live-at : (es : List Entry) (e : ℕ) → get_or (live_of es) e false ≡ (entry es e).live
+live-at es e = get_or-mapped (λ p. p.live) es e no_entry
+
+-- the live numbers
+pub live-number : (es : List Entry) (e : ℕ) → (entry es e).live ≡ true → Contains (live_numbers (live_of es)) e
+live-number es e is = live-from_flag (live_of es) e (live-at es e ∙ is)
+
+pub number-live : (es : List Entry) (e : ℕ) → Contains (live_numbers (live_of es)) e → (entry es e).live ≡ true
+number-live es e has = sym (live-at es e) ∙ flag-from_live (live_of es) e has
+
+pub by-number : (n : NetworkParts) (es : List Entry) → IsNetwork n → length es ≡ length n.edges → IsByNumber n (table_of es) (live_numbers (live_of es))
+by-number n es net one_each =
+    by_number-law n (table_of es) (live_numbers (live_of es)) net
+    (all-from-members (λ e. e < length n.edges) (live_numbers (live_of es))
+    (λ e has. let l = flag_in (live_of es) e (flag-from_live (live_of es) e has) in omega (arith, length-map es (λ (p : Entry). p.live), l)))
+
+-- what the prices say of an edge
+abbrev pub kept_price : NetworkParts → List Entry → ℕ → Priced
+kept_price n es e = record { edge = edge_at n e; value = (entry es e).value; left = (entry es e).left; right = (entry es e).right }
+
+pub entry_at-kept : (n : NetworkParts) (es : List Entry) (e : ℕ) → entry_at n (table_of es) e ≡ kept_price n es e
+entry_at-kept n es e =
+    let value = get_or-mapped (λ (p : Entry). p.value) es e no_entry in
+    let left = get_or-mapped (λ (p : Entry). p.left) es e no_entry in
+    let right = get_or-mapped (λ (p : Entry). p.right) es e no_entry in
+    cc
+
+pub priced-kept : (n : NetworkParts) (es : List Entry) (e u v : ℕ) → IsNetwork n → length es ≡ length n.edges → (entry es e).live ≡ true → IsNumberOf n u v e
+    → priced (prices_of n es) u v ≡ kept_price n es e
+priced-kept n es e u v net one_each live is = (by-number n es net one_each).entries e u v (live-number es e live) is ∙ entry_at-kept n es e
+
+-- the share of a side, by the price of its edge
+abbrev pub side_share : List Point → List ℕ → Priced → ℕ → ℕ → ℤ
+side_share ps hull p u v =
+    cond (is_on_hull hull u v) (weight_between ps u v -ℤ p.value)
+    (cond (nat_lt u v) ((weight_between ps u v -ℤ p.value) -ℤ p.left) (p.value -ℤ p.right))
+
+pub share-kept : (n : NetworkParts) (es : List Entry) (e u v : ℕ) → IsNetwork n → length es ≡ length n.edges → (entry es e).live ≡ true → IsNumberOf n u v e
+    → share n.points n.hull (prices_of n es) u v ≡ side_share n.points n.hull (kept_price n es e) u v
+unfolding share
+share-kept n es e u v net one_each live is = ap (λ p. side_share n.points n.hull p u v) (priced-kept n es e u v net one_each live is)

@@ -1,0 +1,12 @@
+use Rattle.std.proofs.Common.{◌≡◌, ◌*◌, ◌^◌, ◌+ℤ◌, ◌≤ℤ◌, pos}
+use Rattle.lmt_network.specs.Prices.{bound}
+use Rattle.price_ascent.specs.Entries.{prices_of}
+use Rattle.price_ascent.specs.Sums.{anchors_from}
+use Rattle.price_ascent.proofs.prices.Prices.bound.Given as goal
+
+abbrev pub invariant-loop-e : goal.invariant-loop-e
+invariant-loop-e l = record {
+  total : l.sum +ℤ anchors_from l.net l.self l.e ≡ bound l.net.hull (prices_of l.net l.self);
+  low : pos 0 ≤ℤ l.sum;
+  high : l.sum ≤ℤ pos (2 * 10 ^ 18 * l.e);
+}

@@ -1,0 +1,46 @@
+use Rattle.std.proofs.Common.{sym, ◌∙◌, arith}
+use Rattle.std.proofs.lemmas.Int.{ints}
+use Rattle.price_ascent.specs.declared.entry.Entry.{Entry}
+use Rattle.price_ascent.specs.Entries.{no_entry}
+use Rattle.price_ascent.proofs.Kept.{get_or-mapped}
+use Rattle.price_ascent.proofs.Sweeps.{value-is}
+use Rattle.price_ascent.proofs.Tightness.{AreTightened, tight, tightened}
+use Rattle.price_ascent.proofs.prices.Prices.tighten.Goals as goal
+
+-- both passes together
+passes : (c : goal.After-tighten_inner) → AreTightened c.args.net.now c.args.self.now c.tighten_hull.new.self c.tighten_inner.new.self
+passes c = record { belong = c.requires.belong; hull = c.tighten_hull.ensures; inner = c.tighten_inner.ensures }
+
+pub returns-clause-tighten : goal.returns-clause-tighten
+returns-clause-tighten c = tightened c.args.net.now c.args.self.now c.tighten_hull.new.self c.tighten_inner.new.self (passes c)
+
+pub returns-clause-tight : goal.returns-clause-tight
+returns-clause-tight c = tight c.args.net.now c.args.self.now c.tighten_hull.new.self c.tighten_inner.new.self (passes c)
+
+pub returns-clause-prices : goal.returns-clause-prices
+returns-clause-prices c = λ e inner.
+    value-is c.tighten_inner.new.self e ∙ (c.tighten_inner.ensures.prices e inner ∙ (c.tighten_hull.ensures.prices e inner ∙ sym (value-is c.args.self.now e)))
+
+pub returns-clause-anchors : goal.returns-clause-anchors
+returns-clause-anchors c = λ e hull.
+    let a = c.tighten_hull.ensures.anchors e hull in
+    let b = c.tighten_inner.ensures.anchors e hull in
+    let old = value-is c.args.self.now e in
+    let new = value-is c.tighten_inner.new.self e in
+    omega (arith, ints, a, b, old, new)
+
+pub returns-clause-lefts : goal.returns-clause-lefts
+returns-clause-lefts c = λ e.
+    let a = c.tighten_hull.ensures.lefts e in
+    let b = c.tighten_inner.ensures.lefts e in
+    let old = get_or-mapped (λ (p : Entry). p.left) c.args.self.now e no_entry in
+    let new = get_or-mapped (λ (p : Entry). p.left) c.tighten_inner.new.self e no_entry in
+    omega (arith, ints, a, b, old, new)
+
+pub returns-clause-rights : goal.returns-clause-rights
+returns-clause-rights c = λ e.
+    let a = c.tighten_hull.ensures.rights e in
+    let b = c.tighten_inner.ensures.rights e in
+    let old = get_or-mapped (λ (p : Entry). p.right) c.args.self.now e no_entry in
+    let new = get_or-mapped (λ (p : Entry). p.right) c.tighten_inner.new.self e no_entry in
+    omega (arith, ints, a, b, old, new)

@@ -1,0 +1,47 @@
+use Rattle.std.proofs.Common.{◌≡◌, ◌≤◌, ◌<◌, ◌+◌, ℕ, true, List, ◌∷◌, length, flat_map, sym, ap, ◌∙◌, subst, arith}
+use Rattle.lmt_network.specs.Network.{edge_at}
+use Rattle.price_ascent.specs.declared.entry.Entry.{Entry}
+use Rattle.price_ascent.specs.Ascent.{both_sides}
+use Rattle.price_ascent.specs.Entries.{anchored_edges, entry}
+use Rattle.price_ascent.specs.Raised.{AreRaised, sides_from}
+use Rattle.price_ascent.proofs.Raised.{left-raised, more-raised, right-raised}
+use Rattle.price_ascent.proofs.Sides.{anchored-at, sides-more, sides-none, sides-skip}
+use Rattle.price_ascent.proofs.prices.Prices.tighten_inner.Goals as goal
+use Rattle.price_ascent.proofs.prices.Prices.tighten_inner.Goals.{then-at, else-at}
+
+pub loop-e-preserved : goal.loop-e-preserved
+loop-e-preserved c =
+    let n = c.args.net.now in
+    let es = c.args.self.now in
+    let fs = c.loop-e.self in
+    let e = c.loop-e.e in
+    let sides = flat_map both_sides (anchored_edges n es) in
+    let a = (edge_at n e).a in
+    let b = (edge_at n e).b in
+    let one_each = c.requires.belong.one_each in
+    let e_in : e < length n.edges = let l = c.loop-e-test.true in let is = c.edges-e-end.ensures.value in omega (arith, l, is) in
+    let is = ap (λ (p : Entry). p.anchored) c.at.ensures in
+    elim c.if-at.branch [
+      | then-at w ↦
+          let gs = w.raise_left.new.self in
+          let hs = w.raise_right.new.self in
+          let flag : (entry fs e).anchored ≡ true = sym is ∙ w.if-at.true in
+          let flag_es : (entry es e).anchored ≡ true = sym (anchored-at fs es e c.loop-e.invariant.anchored) ∙ flag in
+          let one = more-raised n es fs gs sides ((b, a) ∷ sides_from n es (e + 1)) a b
+          (subst (λ (xs : List (ℕ × ℕ)). AreRaised n es fs sides xs) (sides-more n es e one_each e_in flag_es) c.loop-e.invariant)
+          (left-raised n fs gs e c.loop-e.invariant.belong w.raise_left.ensures.belong e_in flag w.raise_left.ensures.raised) in
+          let flag_gs : (entry gs e).anchored ≡ true = anchored-at gs es e one.anchored ∙ flag_es in
+          let two = more-raised n es gs hs sides (sides_from n es (e + 1)) b a one
+          (right-raised n gs hs e one.belong w.raise_right.ensures.belong e_in flag_gs w.raise_right.ensures.raised) in
+          subst (λ (xs : List Entry). AreRaised n es xs sides (sides_from n es (e + 1))) (sym w.self-is) two
+      | else-at w ↦
+          let flag_es = sym (anchored-at fs es e c.loop-e.invariant.anchored) ∙ (sym is ∙ w.if-at.false) in
+          subst (λ (xs : List Entry). AreRaised n es xs sides (sides_from n es (e + 1))) (sym w.self-is)
+          (subst (λ (xs : List (ℕ × ℕ)). AreRaised n es fs sides xs) (sides-skip n es e one_each e_in flag_es) c.loop-e.invariant)
+    ]
+
+pub returns : goal.returns
+returns c =
+    let n = c.args.net.now in
+    let past : length n.edges ≤ c.loop-e.e = let l = c.loop-e-test.false in let is = c.edges-e-end.ensures.value in omega (arith, l, is) in
+    subst (λ (xs : List (ℕ × ℕ)). AreRaised n c.args.self.now c.loop-e.self (flat_map both_sides (anchored_edges n c.args.self.now)) xs) (sides-none n c.args.self.now c.loop-e.e past) c.loop-e.invariant

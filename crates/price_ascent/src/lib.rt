@@ -1,0 +1,18 @@
+//! Prices of live edges, and anchors that add up to a lower bound: start, sweeps, tightening. The
+//! definitions of each stand in `specs/Ascent.antt`.
+#![tactic(auto)]
+
+mod ascent;
+mod bound;
+mod entry;
+mod number;
+mod prices;
+mod raise;
+mod slacks;
+mod start;
+mod sweep;
+#[cfg(test)]
+mod tests;
+mod tighten;
+
+pub use prices::Prices;
