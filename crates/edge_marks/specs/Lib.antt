@@ -1,0 +1,6 @@
+pub mod Answers
+pub mod Handles
+pub mod Plays
+pub mod Rule
+pub mod Told
+pub mod Words

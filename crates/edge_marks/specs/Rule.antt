@@ -1,0 +1,132 @@
+-- The rule of the marks.
+-- The words are the mark words, with a bit for each edge that is 1 once the edge is killed, and after them two counters:
+-- of the kills that have begun, and of those that have finished. Each seat has a slot, its note. It holds the edge that the
+-- seat's step is for, where a step of a word cannot tell which. Notes stand at each 32nd slot, 128 bytes apart, so that seats
+-- write theirs without a cache line in common.
+use Rattle.std.specs.Prelude.{◌≡◌, ◌≢◌, ◌⊎◌, ℕ, zero, suc, ◌+◌, ◌*◌, ◌/◌, ◌-◌, ◌<◌, ◌≤◌, Bool, true, false, eqb, cond, List, [], ◌∷◌, ◌++◌, length, slice_index, AllPairs, Contains}
+use mathlib.Core.Option.{some}
+use lib.ListN.{get_elem?}
+use Rattle.atomic_table.specs.Table.{State}
+use Rattle.lmt_network.specs.Network.{NetworkParts}
+use Rattle.lmt_network.specs.Numbers.{IsHullNumber, IsMinimalPair, IsOtherSide, AreLive, IsDead}
+use Rattle.edge_marks.specs.declared.view.Loaded.{Loaded}
+use Rattle.edge_marks.specs.declared.view.Phase.{Phase}
+use Rattle.edge_marks.specs.declared.view.Phase.TheVariants.{Idle, Begun, Marked}
+use Rattle.edge_marks.specs.declared.view.Pass.{Pass}
+use Rattle.edge_marks.specs.declared.view.Pass.TheVariants.{NoPass, AtFirst, InPass}
+use Rattle.edge_marks.specs.declared.view.Known.{Known}
+use Rattle.edge_marks.specs.declared.view.About.{About}
+use Rattle.edge_marks.specs.Words.{bit_in, mark_of}
+
+-- how many kills have begun
+abbrev pub begun : NetworkParts → List ℕ → ℕ
+begun n ws = slice_index ws (length n.edges / 64 + 1)
+
+-- how many kills have finished
+abbrev pub finished : NetworkParts → List ℕ → ℕ
+finished n ws = slice_index ws (length n.edges / 64 + 2)
+
+-- the edges below k that are not killed, in their order
+abbrev pub unkilled : ℕ → List ℕ → List ℕ
+unkilled zero ws = []
+unkilled (suc k) ws = cond (eqb (mark_of ws k) 0) (unkilled k ws ++ k ∷ []) (unkilled k ws)
+
+-- the view of the first seat of so many
+abbrev pub first_known : NetworkParts → ℕ → Known
+first_known n seats = record { net = n; seen = []; tried = []; phase = Idle; pass = NoPass; settled = false; splits = seats - 1; low = 0; steps = []; slot = 0; noted = false }
+
+abbrev pub first_view : About → Known
+first_view k = first_known k.net.value k.seats
+
+-- the edge e is one that a seat that has tried these edges may be killing
+abbrev pub IsAim : NetworkParts → List ℕ → ℕ → Type 0
+IsAim n tried e = (e < length n.edges) × (¬ IsHullNumber n e) × IsDead n e × Contains tried e
+
+abbrev pub PhaseHolds : NetworkParts → List ℕ → List ℕ → Phase → Type 0
+PhaseHolds n ws tried Idle = Unit {0}
+PhaseHolds n ws tried (Begun e) = IsAim n tried e
+PhaseHolds n ws tried (Marked e) = IsAim n tried e × (0 < mark_of ws e)
+
+-- each load gave the value that its mark word has now
+abbrev pub ArePresent : NetworkParts → List ℕ → List Loaded → Type 0
+ArePresent n ws loads = (l : Loaded) → Contains loads l → (l.word < length n.edges / 64 + 1) × (slice_index ws l.word ≡ l.value)
+
+abbrev pub PassHolds : NetworkParts → List ℕ → Pass → Type 0
+PassHolds n ws NoPass = Unit {0}
+PassHolds n ws (AtFirst b) = b ≤ begun n ws
+PassHolds n ws (InPass b loads) = (b ≤ begun n ws) × (begun n ws ≡ b → (finished n ws ≡ b) × ArePresent n ws loads)
+
+abbrev pub loaded : ℕ → ℕ → Loaded
+loaded i x = record { word = i; value = x }
+
+-- one of the loads gave the edge's word with the edge's bit 0
+abbrev pub WasLive : List Loaded → ℕ → Type 0
+WasLive loads e = (x : ℕ) × Contains loads (loaded (e / 64) x) × (bit_in x e ≡ 0)
+
+-- one of the loads gave the edge's word with the edge's bit 1
+abbrev pub WasKilled : List Loaded → ℕ → Type 0
+WasKilled loads e = (x : ℕ) × Contains loads (loaded (e / 64) x) × (0 < bit_in x e)
+
+-- the edge e has a locally minimal pair whose other sides were all loaded live
+abbrev pub HadSupport : NetworkParts → List Loaded → ℕ → Type 0
+HadSupport n loads e = (l : ℕ) × (r : ℕ) × IsMinimalPair n e l r × ((f : ℕ) → IsOtherSide n e l r f → WasLive loads f)
+
+-- the edge e is a hull edge, or was loaded killed, or has a support that was loaded live
+abbrev pub IsJudged : NetworkParts → List Loaded → ℕ → Type 0
+IsJudged n loads e = IsHullNumber n e ⊎ (WasKilled loads e ⊎ HadSupport n loads e)
+
+abbrev pub AreJudged : NetworkParts → List Loaded → Type 0
+AreJudged n loads = (e : ℕ) → e < length n.edges → IsJudged n loads e
+
+abbrev pub busy : Phase → ℕ
+busy Idle = 0
+busy (Begun e) = 1
+busy (Marked e) = 1
+
+abbrev pub weight : Bool → ℕ
+weight false = 0
+weight true = 1
+
+-- What the rule says of one view.
+pub record ViewHolds (n : NetworkParts) (ws : List ℕ) (d : Known) : Type 0 where
+  pub net_is : d.net ≡ n
+  pub seen_killed : (e : ℕ) → Contains d.seen e → (e < length n.edges) × (0 < mark_of ws e)
+  pub tried_below : (e : ℕ) → Contains d.tried e → e < length n.edges
+  pub tried_killed : (e : ℕ) → Contains d.tried e → ¬ (d.phase ≡ Begun e) → 0 < mark_of ws e
+  pub tried_once : AllPairs (λ e f. e ≢ f) d.tried
+  pub aim : PhaseHolds n ws d.tried d.phase
+  pub in_pass : PassHolds n ws d.pass
+  pub quiet : d.settled ≡ true → AreLive n (unkilled (length n.edges) ws)
+  pub low_is : d.low ≤ begun n ws
+
+abbrev pub total : (Known → ℕ) → List Known → ℕ
+total f [] = 0
+total f (d ∷ ds) = f d + total f ds
+
+abbrev pub is_busy : Known → ℕ
+is_busy d = busy d.phase
+
+abbrev pub tries : Known → ℕ
+tries d = length d.tried
+
+abbrev pub splits_of : Known → ℕ
+splits_of d = d.splits
+
+-- The rule, for the network and the number of seats that the marks were opened with.
+pub record MarksHold (k : About) (s : State ℕ Known) : Type 0 where
+  pub wide : length s.words ≡ length k.net.value.edges / 64 + 3
+  pub deep : length s.homes ≡ k.seats * 32
+  pub few : (k.seats ≤ 65) × (length k.net.value.edges < 4294967296)
+  -- no closed edges have a killed one
+  pub safe : (e : ℕ) → e < length k.net.value.edges → 0 < mark_of s.words e → IsDead k.net.value e
+  -- the bits of no edge are 0
+  pub spare : (e : ℕ) → length k.net.value.edges ≤ e → e / 64 < length k.net.value.edges / 64 + 1 → mark_of s.words e ≡ 0
+  pub each : (j : ℕ) (d : Known) → get_elem? s.views j ≡ some d → ViewHolds k.net.value s.words d
+  pub open_kills : finished k.net.value s.words + total is_busy s.views ≡ begun k.net.value s.words
+  pub kills : begun k.net.value s.words ≡ total tries s.views
+  pub seated : length s.views + total splits_of s.views ≡ k.seats
+  -- the notes of the seats that a seat may split off are at home, and its own is until it takes it
+  pub noted : (j : ℕ) (d : Known) → get_elem? s.views j ≡ some d → (d.slot + d.splits < k.seats)
+      × ((i : ℕ) → d.slot + weight d.noted ≤ i → i ≤ d.slot + d.splits → (y : ℕ) × (get_elem? s.homes (i * 32) ≡ some (some y)))
+  -- the notes of different seats are apart
+  pub apart : (i j : ℕ) (d e : Known) → i ≢ j → get_elem? s.views i ≡ some d → get_elem? s.views j ≡ some e → (d.slot + d.splits < e.slot) ⊎ (e.slot + e.splits < d.slot)

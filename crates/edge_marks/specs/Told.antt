@@ -1,0 +1,86 @@
+-- What `examine` and `settle` tell, by the loads of the call.
+use Rattle.std.specs.Prelude.{◌≡◌, ◌≢◌, ◌⊎◌, ℕ, ◌+◌, ◌/◌, ◌<◌, true, List, [], ◌∷◌, ◌++◌, length, map, Any, Contains}
+use Rattle.lmt_network.specs.Network.{NetworkParts}
+use Rattle.lmt_network.specs.Numbers.{IsHullNumber, IsMinimalPair, IsOnLeft, IsOnRight, IsSideOf, IsOtherSide, IsBroken}
+use Rattle.edge_marks.specs.declared.answer.Found.{Found}
+use Rattle.edge_marks.specs.declared.answer.Found.TheVariants.{Supported, Unsupported}
+use Rattle.edge_marks.specs.declared.answer.Settle.{Settle}
+use Rattle.edge_marks.specs.declared.answer.Settle.TheVariants.{Quiet, Lone, Moved, InFlight}
+use Rattle.edge_marks.specs.declared.view.Made.{Made}
+use Rattle.edge_marks.specs.declared.view.Made.TheVariants.{Load}
+use Rattle.edge_marks.specs.declared.view.Known.{Known}
+use Rattle.edge_marks.specs.Words.{bit_in}
+use Rattle.edge_marks.specs.Plays.{looked_view, opened_view, compared_view, settled_view}
+
+-- a load that asks for an edge, and the value of the edge's word that it gave
+pub record Asked : Type 0 where
+  pub edge : ℕ
+  pub value : ℕ
+
+abbrev pub asked : ℕ → ℕ → Asked
+asked e x = record { edge = e; value = x }
+
+-- the view after such loads, in their order
+abbrev pub looked_all : List Asked → Known → Known
+looked_all [] d = d
+looked_all (l ∷ ls) d = looked_all ls (looked_view l.edge l.value d)
+
+-- the step of such a load
+abbrev pub ask_made : Asked → Made
+ask_made l = Load (l.edge / 64) l.value
+
+-- the steps of the new view are those of the old and those of these loads
+abbrev pub MakesLoads : List Asked → Known → Known → Type 0
+MakesLoads ls d d' = d'.steps ≡ d.steps ++ map ask_made ls
+
+-- a load for the edge f found it live
+abbrev pub FoundLive : List Asked → ℕ → Type 0
+FoundLive ls f = (x : ℕ) × Contains ls (asked f x) × (bit_in x f ≡ 0)
+
+-- a load for the edge f found it killed
+abbrev pub FoundKilled : List Asked → ℕ → Type 0
+FoundKilled ls f = (x : ℕ) × Contains ls (asked f x) × (0 < bit_in x f)
+
+-- each load is for a side, not e, of the triangle t
+abbrev pub AskForSidesOf : NetworkParts → ℕ → ℕ → List Asked → Type 0
+AskForSidesOf n e t ls = (l : Asked) → Contains ls l → (l.edge ≢ e) × IsSideOf n t l.edge
+
+-- each load is for a side, not e, of a triangle on the left or on the right of e
+abbrev pub AskForSides : NetworkParts → ℕ → List Asked → Type 0
+AskForSides n e ls = (l : Asked) → Contains ls l → (l.edge ≢ e) × ((t : ℕ) × (IsOnLeft n e t ⊎ IsOnRight n e t) × IsSideOf n t l.edge)
+
+-- each side of the triangle t but e was found live
+abbrev pub HasLiveSides : NetworkParts → ℕ → ℕ → List Asked → Type 0
+HasLiveSides n e t ls = (f : ℕ) → IsSideOf n t f → f ≢ e → FoundLive ls f
+
+-- a side of the triangle t other than e was seen killed
+abbrev pub HasKilledSide : NetworkParts → ℕ → ℕ → List ℕ → Type 0
+HasKilledSide n e t seen = (f : ℕ) × (f ≢ e) × IsSideOf n t f × Contains seen f
+
+-- e is locally minimal between l and r, and each other side of both was found live
+abbrev pub IsLivePair : NetworkParts → ℕ → ℕ → ℕ → List Asked → Type 0
+IsLivePair n e l r ls = IsMinimalPair n e l r × ((f : ℕ) → IsOtherSide n e l r f → FoundLive ls f)
+
+-- the edge e is a hull edge, or was found killed, or has a support that was found live
+abbrev pub WasJudged : NetworkParts → List Asked → ℕ → Type 0
+WasJudged n ls e = IsHullNumber n e ⊎ (FoundKilled ls e ⊎ ((l : ℕ) × (r : ℕ) × IsLivePair n e l r ls))
+
+-- each locally minimal pair of e with l on its left has another side that was seen killed
+abbrev pub IsBrokenWith : NetworkParts → ℕ → ℕ → List ℕ → Type 0
+IsBrokenWith n e l seen = (r : ℕ) → IsMinimalPair n e l r → Any (IsOtherSide n e l r) seen
+
+-- what `examine` has found of the edge e, where the seat has then seen these edges killed
+abbrev pub FoundBy : NetworkParts → ℕ → List Asked → List ℕ → Found → Type 0
+FoundBy n e ls seen (Supported l r) = IsLivePair n e l r ls
+FoundBy n e ls seen Unsupported = IsBroken n seen e
+
+-- the view after the two loads that begin a pass
+abbrev pub entered : NetworkParts → ℕ → ℕ → Known → Known
+entered n b f d = compared_view (length n.edges / 64 + 2) f (opened_view (length n.edges / 64 + 1) b d)
+
+-- what `settle` has found, between the views d and d'
+abbrev pub SettledBy : NetworkParts → Known → Known → Settle → Type 0
+SettledBy n d d' Quiet = (b : ℕ) × (ls : List Asked) × (d' ≡ settled_view (length n.edges / 64 + 1) b (looked_all ls (entered n b b d))) × (d'.settled ≡ true)
+SettledBy n d d' (Lone e) = (b : ℕ) × (ls : List Asked) × (d' ≡ looked_all ls (entered n b b d)) × (e < length n.edges) × (¬ IsHullNumber n e) × FoundLive ls e × IsBroken n d'.seen e × (¬ Contains d'.tried e)
+SettledBy n d d' (Moved before after) = (ls : List Asked) × (d' ≡ settled_view (length n.edges / 64 + 1) after (looked_all ls (entered n before before d))) × (before < after)
+SettledBy n d d' (InFlight begun finished) = (d' ≡ entered n begun finished d) × (begun ≢ finished)

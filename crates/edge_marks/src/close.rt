@@ -1,0 +1,69 @@
+// Marks are closed.
+ghost use Rattle.std.specs.Prelude.{◌≡◌, ℕ, ◌+◌, ◌/◌, ◌<◌, ◌^◌, true, false, eqb, List, length, replicate, slice_index_or, All, Contains};
+ghost use Rattle.std.specs.Mem.Slots.{slots_items, slots_len, IsFull};
+ghost use Rattle.lmt_network.specs.Flags.{live_numbers};
+ghost use Rattle.lmt_network.specs.Numbers.{AreClosed, AreLive};
+ghost use Rattle.edge_marks.specs.Handles.{Belongs};
+ghost use Rattle.edge_marks.specs.Words.{mark_of};
+
+use crate::bits::bit_of;
+use crate::handles::{Marks, Seat};
+use atomic_table::Closed;
+use lmt_network::Flags;
+use std::alloc::Global;
+
+// Drops the flags of the edges whose bit is set.
+fn drop_killed(closed: &Closed<u32, Global>, flags: &mut Flags, count: u32)
+    requires words { IsFull closed.now.words × (slots_len closed.now.words ≡ count / 64 + 3) }
+    requires all { flags.old ≡ replicate count true }
+    ensures count { length flags.new ≡ count }
+    ensures each { (e : ℕ) → e < count → slice_index_or flags.new e false ≡ eqb (mark_of (slots_items closed.now.words) e) 0 }
+{
+    for e in 0..count {
+        if bit_of(closed.word((e / 64) as usize), e) != 0 {
+            flags.drop_edge(e);
+        }
+    }
+}
+
+// Frees the words and the notes.
+fn put_away(mut closed: Closed<u32, Global>)
+    requires { IsFull closed.slots }
+{
+    let mut i = 0;
+    while i < closed.slot_count() {
+        closed.take(i);
+        i += 1;
+    }
+    closed.free();
+}
+
+impl Marks {
+    /// The flags of the edges that no seat has killed. Takes no memory.
+    pub fn close(self, seat: Seat) -> Flags
+        requires { Belongs self seat }
+        ensures count { length result ≡ length self.net.edges }
+        ensures closed { (es : List ℕ) → AreClosed self.net es → All (Contains (live_numbers result)) es }
+        ensures seen { (e : ℕ) → Contains seat.known.seen e → slice_index_or result e false ≡ false }
+        ensures settled { seat.known.settled ≡ true → AreLive self.net (live_numbers result) }
+    {
+        let Marks {
+            table,
+            count,
+            mut flags,
+            heap: _,
+        } = self;
+        let Seat {
+            place,
+            slot: _,
+            bits,
+            spare,
+        } = seat;
+        drop(bits);
+        drop(spare);
+        let closed = table.close_with(place);
+        drop_killed(&closed, &mut flags, count);
+        put_away(closed);
+        flags
+    }
+}

@@ -1,0 +1,88 @@
+// Marks are opened, and a seat is split.
+ghost use Rattle.std.specs.Prelude.{◌≡◌, ℕ, ◌<◌, ◌≤◌, length, replicate, IfOk, All};
+ghost use Rattle.edge_marks.specs.Rule.{first_known};
+ghost use Rattle.edge_marks.specs.Handles.{Belongs, IsSameSeat};
+ghost use Rattle.edge_marks.specs.Plays.{noted_view, left_view, right_view};
+
+use crate::handles::{Marks, NOTE_STEP, Seat};
+use crate::plays::{Cut, TakeNote};
+use crate::view::About;
+use atomic_table::Table;
+use lmt_network::{Flags, Network};
+use mwt_base::NoMemory;
+use std::alloc::{AllocError, Global};
+use std::snapshot::Snapshot;
+
+// So many rows of bits, none of them set.
+fn blank_rows(alloc: Global, count: usize, len: usize) -> Result<Vec<Vec<u64>>, AllocError>
+    ensures count { IfOk result (λ rows. length rows.items ≡ count) }
+    ensures blank { IfOk result (λ rows. All (λ row. row.items ≡ replicate len 0) rows.items) }
+{
+    let mut rows = Vec::with_capacity(alloc, count)?;
+    'fill: for _ in 0..count {
+        let row = Vec::from_elem(alloc, 0u64, len)?;
+        rows.push(row)?;
+    }
+    Ok(rows)
+}
+
+impl Marks {
+    /// The marks of the network, with each edge live, and the first of `seats` seats.
+    pub fn open(alloc: Global, net: &Network, seats: u32) -> Result<(Marks, Seat), NoMemory>
+        requires some { 0 < seats }
+        requires few { seats ≤ 65 }
+        ensures { IfOk result (λ t. (t.0.net ≡ net.now) × (t.0.seats ≡ seats) × Belongs t.0 t.1
+            × (t.1.known ≡ noted_view (first_known net.now seats))) }
+    {
+        let count = net.edges();
+        let width = (count / 64 + 1) as usize;
+        let flags = Flags::all(alloc, count)?;
+        let words = Vec::from_elem(alloc, 0u64, width + 2)?;
+        let notes = Vec::from_elem(alloc, 0u32, seats as usize * NOTE_STEP)?;
+        let bits = Vec::from_elem(alloc, 0u64, width)?;
+        let spare = blank_rows(alloc, (seats - 1) as usize, width)?;
+        let about = About {
+            net: Snapshot::of(net),
+            seats,
+        };
+        let Ok((table, mut place)) = Table::new(alloc, words.as_slice(), notes, &about) else {
+            return Err(NoMemory);
+        };
+        table.shared.load::<TakeNote>(&mut place, 0);
+        let marks = Marks {
+            table,
+            count,
+            flags,
+            heap: alloc,
+        };
+        let seat = Seat {
+            place,
+            slot: 0,
+            bits,
+            spare,
+        };
+        Ok((marks, seat))
+    }
+
+    /// A new seat, which has seen killed what the old one has. Takes no memory.
+    pub fn split(&self, seat: &mut Seat) -> Seat
+        requires belongs { Belongs self.now seat.old }
+        requires some_left { 0 < seat.old.known.splits }
+        ensures old { IsSameSeat seat.old seat.new × Belongs self.now seat.new × (seat.new.known ≡ left_view seat.old.known) }
+        ensures new { Belongs self.now result × (result.known ≡ noted_view (right_view seat.old.known)) }
+    {
+        let Some(bits) = seat.spare.pop() else {
+            unreachable!()
+        };
+        let slot = seat.slot + seat.spare.len() as u32 + 1;
+        let shared = &self.table.shared;
+        let mut place = shared.split_seat::<Cut>(&mut seat.place);
+        shared.load::<TakeNote>(&mut place, 0);
+        Seat {
+            place,
+            slot,
+            bits,
+            spare: Vec::new(self.heap),
+        }
+    }
+}
