@@ -17,8 +17,8 @@ const MOST: usize = 400_000;
 /// test on, that pass it. They come in ascending order. `Dense` says that there are more than 400,000;
 /// the edges beyond are not enumerated then. For n points it takes time n^2 log n at most.
 ///
-/// The test is due to R. L. S. Drysdale, S. McElfresh and J. S. Snoeyink (2001). It is not built yet;
-/// `grid` and `hull` are for it.
+/// The test is due to R. L. S. Drysdale, S. McElfresh and J. S. Snoeyink (2001). It is not built yet,
+/// so that it must be off; `grid` and `hull` are for it.
 pub fn candidates<R: Threads + Sync>(
     _rt: &R,
     alloc: Global,
@@ -27,6 +27,7 @@ pub fn candidates<R: Threads + Sync>(
     hull: &Hull,
     diamond: Diamond,
 ) -> Result<Edges, EdgeStop>
+    requires off { diamond ≡ Diamond.Off }
     requires grid { grid.now ≡ points.now.points }
     requires hull { IsHull points.now.points hull.now }
     ensures listed { IfOk result (λ edges. AreCandidates points.now.points hull.now diamond edges) }
@@ -50,6 +51,7 @@ fn add_row(
     a: u32,
     edges: &mut Vec<Edge>,
 ) -> Result<(), EdgeStop>
+    requires off { diamond ≡ Diamond.Off }
     requires a_in { a < length points.now.points }
     requires so_far { AreCandidatesBefore points.now.points hull.now diamond a 0 edges.old.items }
     requires few { vec_len edges.old ≤ 400000 }
@@ -71,6 +73,7 @@ fn add_row(
 
 // Whether an edge is a candidate, by the marks of what its lesser end sees.
 fn is_candidate(points: &Points, hull: &Hull, diamond: Diamond, seen: &[bool], edge: Edge) -> bool
+    requires off { diamond ≡ Diamond.Off }
     requires seen { MarksSeen points.now.points edge.a seen.now }
     requires b_in { edge.b < length points.now.points }
     ensures { IsTrue result ↔ IsCandidate points.now.points hull.now diamond edge }
@@ -80,9 +83,11 @@ fn is_candidate(points: &Points, hull: &Hull, diamond: Diamond, seen: &[bool], e
 
 // Whether an edge passes the diamond test, if it is made.
 fn passes(points: &Points, hull: &Hull, diamond: Diamond, edge: Edge) -> bool
+    requires { diamond ≡ Diamond.Off }
     ensures { IsTrue result ↔ PassesDiamond diamond points.now.points hull.now edge }
 {
     match diamond {
+        Diamond::On => unreachable!(),
         Diamond::Off => true,
     }
 }

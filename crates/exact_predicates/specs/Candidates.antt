@@ -1,11 +1,12 @@
 -- Candidate edges, and the empty triangles that they bound.
 use Rattle.std.specs.Prelude.{◌≡◌, ◌≢◌, ◌⊎◌, ℕ, ◌<◌, min, max, ⊤, List, length, All, AllPairs, Any, Contains}
 use Rattle.exact_predicates.specs.declared.diamond.Diamond.{Diamond}
-use Rattle.exact_predicates.specs.declared.diamond.Diamond.TheVariants.{Off}
+use Rattle.exact_predicates.specs.declared.diamond.Diamond.TheVariants.{On, Off}
 use Rattle.exact_predicates.specs.declared.edge.Edge.{Edge}
 use Rattle.exact_predicates.specs.declared.point.Point.{Point}
 use Rattle.exact_predicates.specs.declared.tri.Tri.{Tri}
-use Rattle.exact_predicates.specs.Plane.{IsBetween}
+use Rattle.exact_predicates.specs.Hull.{IsHullPair}
+use Rattle.exact_predicates.specs.Plane.{IsBetween, IsInLeftDiamond}
 use Rattle.exact_predicates.specs.PointSet.{point_at}
 use Rattle.exact_predicates.specs.Triangulation.{IsEmpty}
 
@@ -25,8 +26,14 @@ Joins e u v = (e.a ≡ min u v) × (e.b ≡ max u v)
 abbrev pub HasEdge : List Edge → ℕ → ℕ → Type 0
 HasEdge es u v = Any (λ e. Joins e u v) es
 
--- e passes the diamond test: with the test off each edge does
+-- no point of ps is in the left diamond of u to v
+abbrev pub HasEmptyDiamond : List Point → ℕ → ℕ → Type 0
+HasEmptyDiamond ps u v = (r : ℕ) → r < length ps → ¬ IsInLeftDiamond (point_at ps u) (point_at ps v) (point_at ps r)
+
+-- e passes the diamond test: it is an edge of the hull, or one of its two diamonds is empty; with the test off each edge does
 abbrev pub PassesDiamond : Diamond → List Point → List ℕ → Edge → Type 0
+PassesDiamond On ps hull e =
+    (IsHullPair hull e.a e.b ⊎ IsHullPair hull e.b e.a) ⊎ (HasEmptyDiamond ps e.a e.b ⊎ HasEmptyDiamond ps e.b e.a)
 PassesDiamond Off ps hull e = ⊤
 
 -- e is a candidate edge of the points ps with this hull: no point is between its ends, and it passes the test

@@ -1,7 +1,8 @@
 // Whether the diamond test is made.
 
-/// Whether edges are left out by the diamond test. Only the value `Off` is built.
+/// Whether edges are left out by the diamond test.
 #[derive(Clone, Copy, Debug, PartialEq, Eq)]
 pub enum Diamond {
+    On,
     Off,
 }

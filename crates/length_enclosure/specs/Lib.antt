@@ -1,2 +1,4 @@
+pub mod Number
 pub mod Amount
 pub mod Enclosure
+pub mod Units

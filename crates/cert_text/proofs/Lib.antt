@@ -1,0 +1,16 @@
+pub mod Cutting
+pub mod Ends
+pub mod FieldTexts
+pub mod Growing
+pub mod LineKinds
+pub mod Lists
+pub mod LiveKinds
+pub mod Loops
+pub mod ListParts
+pub mod ReportSizes
+pub mod Reports
+pub mod RowKinds
+pub mod Shapes
+pub mod Sizes
+pub mod Taking
+pub mod WordKinds

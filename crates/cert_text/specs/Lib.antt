@@ -1,0 +1,11 @@
+pub mod Cuts
+pub mod Found
+pub mod Lines
+pub mod Numbers
+pub mod Places
+pub mod Reading
+pub mod Reasons
+pub mod Rows
+pub mod Texts
+pub mod Whole
+pub mod Within

@@ -1,0 +1,90 @@
+-- The ranges of a report, and the orders of its lists.
+use Rattle.std.specs.Prelude.{◌≡◌, ◌⊎◌, ℕ, ℤ, pos, neg_ℤ, ◌+◌, ◌^◌, ◌<◌, ◌≤◌, ◌≤ℤ◌, ⊤, List, [], ◌∷◌, length, Option, Some, None}
+use Rattle.std.specs.List.{AllByRecursion}
+use Rattle.exact_predicates.specs.declared.edge.Edge.{Edge}
+use Rattle.exact_predicates.specs.declared.point.Point.{Point}
+use Rattle.exact_predicates.specs.declared.tri.Tri.{Tri}
+use Rattle.exact_predicates.specs.Plane.{IsInRange, Precedes}
+use Rattle.exact_predicates.specs.Candidates.{EdgePrecedes, TriPrecedes}
+use Rattle.cert_text.specs.declared.report.LineKind.{LineKind}
+use Rattle.cert_text.specs.declared.report.LineKind.TheVariants.{Hull, Inner, Skeleton}
+use Rattle.cert_text.specs.declared.report.PriceLine.{PriceLine}
+use Rattle.cert_text.specs.declared.report.Report.{Report}
+use Rattle.cert_text.specs.Lines.{most_anchor, most_price, most_bound}
+
+-- n is from low to below end
+pub record IsFrom (low end n : ℕ) : Type 0 where
+  pub least : low ≤ n
+  pub most : n < end
+
+-- n is from low to high
+pub record IsBetween (low high n : ℤ) : Type 0 where
+  pub least : low ≤ℤ n
+  pub most : n ≤ℤ high
+
+-- n is at most this in size
+abbrev pub IsUpto : ℕ → ℤ → Type 0
+IsUpto most n = IsBetween (neg_ℤ (pos most)) (pos most) n
+
+pub record IsPointRow (p : Point) : Type 0 where
+  pub id : p.id < 2 ^ 32
+  pub place : IsInRange p
+
+abbrev pub IsHullRow : ℕ → ℕ → Type 0
+IsHullRow points u = u < points
+
+abbrev pub IsEdgeRow : ℕ → Edge → Type 0
+IsEdgeRow points e = e.b < points
+
+pub record IsTriRow (points : ℕ) (t : Tri) : Type 0 where
+  pub b : t.b < points
+  pub c : t.c < points
+
+-- the amounts of a live edge, by its kind; only version 2 has edges of the kind Skeleton
+abbrev pub ArePrices : ℕ → LineKind → ℤ → ℤ → ℤ → Type 0
+ArePrices version Hull value left right = IsUpto most_anchor value × (left ≡ pos 0) × (right ≡ pos 0)
+ArePrices version Inner value left right = IsUpto most_price value × (left ≡ pos 0) × (right ≡ pos 0)
+ArePrices version Skeleton value left right =
+    (version ≡ 2) × IsUpto most_price value × IsBetween (pos 0) (pos most_anchor) left × IsBetween (pos 0) (pos most_anchor) right
+
+pub record IsLiveRow (version points : ℕ) (l : PriceLine) : Type 0 where
+  pub edge : IsEdgeRow points l.edge
+  pub prices : ArePrices version l.kind l.value l.left l.right
+
+abbrev pub LivePrecedes : PriceLine → PriceLine → Type 0
+LivePrecedes l m = EdgePrecedes l.edge m.edge
+
+-- a triangle that is not less than another
+abbrev pub TriFollows : Tri → Tri → Type 0
+TriFollows s t = TriPrecedes s t ⊎ (s ≡ t)
+
+-- each is R behind the one before it, and the first behind the last one, if there is one
+abbrev pub IsChain : {X : Type 0} → (X → X → Type 0) → Option X → List X → Type 0
+IsChain R last [] = ⊤
+IsChain R None (x ∷ xs) = IsChain R (Some x) xs
+IsChain R (Some last) (x ∷ xs) = R last x × IsChain R (Some x) xs
+
+-- A report is within its ranges, and its lists ascend.
+pub record IsWithin (r : Report) : Type 0 where
+  pub version : (r.version ≡ 1) ⊎ (r.version ≡ 2)
+  pub unit : r.unit ≤ 6
+  pub merged : r.merged < 2 ^ 32
+  pub points_count : IsFrom 3 10001 (length r.points)
+  pub points : AllByRecursion IsPointRow r.points
+  pub points_ascend : IsChain Precedes None r.points
+  pub hull_count : IsFrom 3 (length r.points + 1) (length r.hull)
+  pub hull : AllByRecursion (IsHullRow (length r.points)) r.hull
+  pub candidates : r.candidates ≤ 400000
+  pub live_count : length r.live ≤ 400000
+  pub live : AllByRecursion (IsLiveRow r.version (length r.points)) r.live
+  pub live_ascend : IsChain LivePrecedes None r.live
+  pub skeleton_count : length r.skeleton ≤ 400000
+  pub skeleton : AllByRecursion (IsEdgeRow (length r.points)) r.skeleton
+  pub skeleton_ascends : IsChain EdgePrecedes None r.skeleton
+  pub tris_count : length r.tris ≤ 20000
+  pub tris : AllByRecursion (IsTriRow (length r.points)) r.tris
+  pub tris_ascend : IsChain TriFollows None r.tris
+  pub lo : r.lo ≤ 10 ^ 20
+  pub hi : r.hi ≤ 10 ^ 20
+  pub bound : IsUpto (most_bound r.version) r.bound
+  pub gap : IsUpto (most_bound r.version) r.gap

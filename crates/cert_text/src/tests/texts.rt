@@ -1,0 +1,211 @@
+// Texts that are read and written again.
+
+use super::{bytes_of, failed};
+use crate::{LineKind, read_report, write_report};
+use exact_predicates::Diamond;
+use std::test::Fail;
+
+// Three points, version 1, with the diamond test on.
+pub const TRIANGLE: &str = "\
+mwt 1\n\
+diamond on\n\
+unit 0\n\
+merged 0\n\
+points 3\n\
+1 0 0\n\
+3 0 4\n\
+2 3 0\n\
+hull 3\n\
+0\n\
+2\n\
+1\n\
+candidates 3\n\
+live 3\n\
+0 1 h 0.000000\n\
+0 2 h 12.000000\n\
+1 2 h 0.000000\n\
+skeleton 3\n\
+0 1\n\
+0 2\n\
+1 2\n\
+triangles 1\n\
+0 2 1\n\
+method flips\n\
+length 12.000000 12.000000\n\
+bound 12.000000\n\
+gap 0.000000\n\
+end\n\
+";
+
+// Five points, version 1.
+pub const FIVE_OF_VERSION_1: &str = "\
+mwt 1\n\
+diamond off\n\
+unit 0\n\
+merged 0\n\
+points 5\n\
+1 0 0\n\
+2 2 -2\n\
+5 5 1\n\
+3 7 -3\n\
+4 10 0\n\
+hull 5\n\
+0\n\
+1\n\
+3\n\
+4\n\
+2\n\
+candidates 10\n\
+live 7\n\
+0 1 h 19.505172\n\
+0 2 h 0.000000\n\
+1 2 i -7.335086\n\
+1 3 h 0.000000\n\
+2 3 i 2.236067\n\
+2 4 h 0.000000\n\
+3 4 h 11.577727\n\
+skeleton 7\n\
+0 1\n\
+0 2\n\
+1 2\n\
+1 3\n\
+2 3\n\
+2 4\n\
+3 4\n\
+triangles 3\n\
+0 1 2\n\
+1 3 2\n\
+2 3 4\n\
+method flips\n\
+length 31.082899 31.082906\n\
+bound 31.082899\n\
+gap 0.000007\n\
+end\n\
+";
+
+// Five points, version 2: two edges of the skeleton are no edges of the hull.
+pub const FIVE: &str = "\
+mwt 2\n\
+diamond off\n\
+unit 0\n\
+merged 0\n\
+points 5\n\
+1 0 0\n\
+2 2 -2\n\
+5 5 1\n\
+3 7 -3\n\
+4 10 0\n\
+hull 5\n\
+0\n\
+1\n\
+3\n\
+4\n\
+2\n\
+candidates 10\n\
+live 7\n\
+0 1 h 19.505172\n\
+0 2 h 0.000000\n\
+1 2 s -7.335086 0.000000 0.000000\n\
+1 3 h 0.000000\n\
+2 3 s 2.236067 0.000000 0.000000\n\
+2 4 h 0.000000\n\
+3 4 h 11.577727\n\
+skeleton 7\n\
+0 1\n\
+0 2\n\
+1 2\n\
+1 3\n\
+2 3\n\
+2 4\n\
+3 4\n\
+triangles 3\n\
+0 1 2\n\
+1 3 2\n\
+2 3 4\n\
+method flips\n\
+length 31.082899 31.082906\n\
+bound 31.082899\n\
+gap 0.000007\n\
+end\n\
+";
+
+// Five points, of which two edges have an anchor on one side.
+pub const SPOKES: &str = "\
+mwt 2\n\
+diamond on\n\
+unit 0\n\
+merged 0\n\
+points 5\n\
+1 0 0\n\
+2 6 4\n\
+3 6 9\n\
+4 6 30\n\
+5 12 0\n\
+hull 3\n\
+0\n\
+4\n\
+3\n\
+candidates 9\n\
+live 9\n\
+0 1 s 3.605551 11.513877 0.000000\n\
+0 2 s 5.408326 0.000000 0.000000\n\
+0 3 h 46.502444\n\
+0 4 h 19.211102\n\
+1 2 s 2.500000 0.000000 11.513877\n\
+1 4 s 3.605551 0.000000 0.000000\n\
+2 3 s 10.500000 0.000000 0.000000\n\
+2 4 s 5.408326 0.000000 0.000000\n\
+3 4 h 46.502444\n\
+skeleton 9\n\
+0 1\n\
+0 2\n\
+0 3\n\
+0 4\n\
+1 2\n\
+1 4\n\
+2 3\n\
+2 4\n\
+3 4\n\
+triangles 5\n\
+0 1 2\n\
+0 2 3\n\
+0 4 1\n\
+1 4 2\n\
+2 4 3\n\
+method flips\n\
+length 135.243744 135.243750\n\
+bound 135.243744\n\
+gap 0.000006\n\
+end\n\
+";
+
+#[test]
+fn texts_are_read_and_written_again(rt: HostRuntime) -> Result<(), Fail> {
+    let alloc = rt.alloc();
+    for text in [TRIANGLE, FIVE_OF_VERSION_1, FIVE, SPOKES] {
+        let report = read_report(alloc, &bytes_of(alloc, text)?).map_err(failed)?;
+        let again = write_report(alloc, &report).map_err(|_| Fail::from("no memory"))?;
+        assert_eq!(rt; again.as_slice(), text.as_bytes());
+    }
+    Ok(())
+}
+
+#[test]
+fn what_a_report_says(rt: HostRuntime) -> Result<(), Fail> {
+    let alloc = rt.alloc();
+    let report = read_report(alloc, &bytes_of(alloc, FIVE)?).map_err(failed)?;
+    assert_eq!(rt; report.version, 2);
+    assert_eq!(rt; report.diamond, Diamond::Off);
+    assert_eq!(rt; report.hull.as_slice(), [0, 1, 3, 4, 2].as_slice());
+    assert_eq!(rt; report.candidates, 10);
+    assert_eq!(rt; report.tris.len(), 3);
+    assert_eq!(rt; report.lo, 31_082_899);
+    assert_eq!(rt; report.gap, 7);
+    assert_eq!(rt; report.live.len(), 7);
+    let line = report.live.get(2);
+    assert_eq!(rt; line.kind, LineKind::Skeleton);
+    assert_eq!(rt; line.edge.b, 2);
+    assert_eq!(rt; line.value, -7_335_086);
+    assert_eq!(rt; line.left, 0);
+    Ok(())
+}
