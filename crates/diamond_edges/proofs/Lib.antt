@@ -1,2 +1,5 @@
+pub mod Batches
 pub mod Marks
 pub mod Lists
+pub mod RowLists
+pub mod Walks

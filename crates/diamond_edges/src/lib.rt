@@ -1,9 +1,15 @@
 //! The candidate edges of a set of points, in ascending order.
 #![tactic(auto)]
 
+mod batch;
+mod link;
+mod linked;
+mod push;
 mod rows;
 mod seen;
+mod slots;
 mod stop;
+mod walk;
 
 pub use exact_predicates::Diamond;
 pub use rows::candidates;

@@ -4,6 +4,8 @@ ghost use Rattle.exact_predicates.specs.Candidates.{IsCandidate, AreCandidates, 
 ghost use Rattle.exact_predicates.specs.Hull.{IsHull};
 ghost use Rattle.diamond_edges.specs.Enumeration.{AreCandidatesBefore, MarksSeen};
 
+use crate::linked::all_linked;
+use crate::push::push;
 use crate::seen::seen_from;
 use crate::stop::EdgeStop;
 use exact_predicates::{Diamond, Edge, Edges, Hull, Points};
@@ -11,33 +13,45 @@ use point_grid::Grid;
 use std::alloc::Global;
 use std::thread::Threads;
 
-const MOST: usize = 400_000;
-
 /// The candidate edges of the points: those with no point between their ends, and, with the diamond
 /// test on, that pass it. They come in ascending order. `Dense` says that there are more than 400,000;
-/// the edges beyond are not enumerated then. For n points it takes time n^2 log n at most.
+/// the edges beyond are not enumerated then. With the test off it takes time n^2 log n for n points;
+/// with the test on about n log n where the points are spread evenly, and n^2 at most times what one
+/// edge takes.
 ///
-/// The test is due to R. L. S. Drysdale, S. McElfresh and J. S. Snoeyink (2001). It is not built yet,
-/// so that it must be off; `grid` and `hull` are for it.
+/// The test is due to R. L. S. Drysdale, S. McElfresh and J. S. Snoeyink (2001). No answer depends on
+/// `grid`.
 pub fn candidates<R: Threads + Sync>(
-    _rt: &R,
+    rt: &R,
     alloc: Global,
     points: &Points,
-    grid: &Grid,
+    _grid: &Grid,
     hull: &Hull,
     diamond: Diamond,
 ) -> Result<Edges, EdgeStop>
-    requires off { diamond ≡ Diamond.Off }
-    requires grid { grid.now ≡ points.now.points }
+    requires grid { _grid.now ≡ points.now.points }
     requires hull { IsHull points.now.points hull.now }
     ensures listed { IfOk result (λ edges. AreCandidates points.now.points hull.now diamond edges) }
     ensures few { IfOk result (λ edges. length edges ≤ 400000) }
     ensures dense { IfErr result (λ stop. stop ≡ EdgeStop.Dense →
         AreMoreThan (IsCandidate points.now.points hull.now diamond) 400000) }
 {
+    match diamond {
+        Diamond::Off => all_seen(alloc, points, hull),
+        Diamond::On => all_linked(rt, alloc, points, hull),
+    }
+}
+
+// The candidate edges with the test off: those between points that see one another.
+fn all_seen(alloc: Global, points: &Points, hull: &Hull) -> Result<Edges, EdgeStop>
+    ensures listed { IfOk result (λ edges. AreCandidates points.now.points hull.now Diamond.Off edges) }
+    ensures few { IfOk result (λ edges. length edges ≤ 400000) }
+    ensures dense { IfErr result (λ stop. stop ≡ EdgeStop.Dense →
+        AreMoreThan (IsCandidate points.now.points hull.now Diamond.Off) 400000) }
+{
     let mut edges = Vec::new(alloc);
     for a in 0..points.len() {
-        add_row(alloc, points, hull, diamond, a, &mut edges)?;
+        add_row(alloc, points, hull, a, &mut edges)?;
     }
     Ok(Edges::of(edges))
 }
@@ -47,61 +61,33 @@ fn add_row(
     alloc: Global,
     points: &Points,
     hull: &Hull,
-    diamond: Diamond,
     a: u32,
     edges: &mut Vec<Edge>,
 ) -> Result<(), EdgeStop>
-    requires off { diamond ≡ Diamond.Off }
     requires a_in { a < length points.now.points }
-    requires so_far { AreCandidatesBefore points.now.points hull.now diamond a 0 edges.old.items }
+    requires so_far { AreCandidatesBefore points.now.points hull.now Diamond.Off a 0 edges.old.items }
     requires few { vec_len edges.old ≤ 400000 }
-    ensures listed { OnOk result (AreCandidatesBefore points.now.points hull.now diamond (a + 1) 0 edges.new.items) }
+    ensures listed { OnOk result (AreCandidatesBefore points.now.points hull.now Diamond.Off (a + 1) 0 edges.new.items) }
     ensures few { OnOk result (vec_len edges.new ≤ 400000) }
     ensures dense { IfErr result (λ stop. stop ≡ EdgeStop.Dense →
-        AreMoreThan (IsCandidate points.now.points hull.now diamond) 400000) }
+        AreMoreThan (IsCandidate points.now.points hull.now Diamond.Off) 400000) }
 {
     let count = points.len();
     let seen = seen_from(alloc, points, a)?;
     for b in a + 1..count {
         let edge = Edge { a, b };
-        if is_candidate(points, hull, diamond, &seen, edge) {
+        if is_candidate(points, hull, &seen, edge) {
             push(edges, edge)?;
         }
     }
     Ok(())
 }
 
-// Whether an edge is a candidate, by the marks of what its lesser end sees.
-fn is_candidate(points: &Points, hull: &Hull, diamond: Diamond, seen: &[bool], edge: Edge) -> bool
-    requires off { diamond ≡ Diamond.Off }
+// Whether an edge is a candidate with the test off, by the marks of what its lesser end sees.
+fn is_candidate(points: &Points, hull: &Hull, seen: &[bool], edge: Edge) -> bool
     requires seen { MarksSeen points.now.points edge.a seen.now }
     requires b_in { edge.b < length points.now.points }
-    ensures { IsTrue result ↔ IsCandidate points.now.points hull.now diamond edge }
+    ensures { IsTrue result ↔ IsCandidate points.now.points hull.now Diamond.Off edge }
 {
-    seen[edge.b as usize] && passes(points, hull, diamond, edge)
-}
-
-// Whether an edge passes the diamond test, if it is made.
-fn passes(points: &Points, hull: &Hull, diamond: Diamond, edge: Edge) -> bool
-    requires { diamond ≡ Diamond.Off }
-    ensures { IsTrue result ↔ PassesDiamond diamond points.now.points hull.now edge }
-{
-    match diamond {
-        Diamond::On => unreachable!(),
-        Diamond::Off => true,
-    }
-}
-
-// One edge more, if there is room.
-fn push(edges: &mut Vec<Edge>, edge: Edge) -> Result<(), EdgeStop>
-    requires few { vec_len edges.old ≤ 400000 }
-    ensures pushed { OnOk result (edges.new.items ≡ edges.old.items ++ edge ∷ []) }
-    ensures few { OnOk result (vec_len edges.new ≤ 400000) }
-    ensures dense { IfErr result (λ stop. stop ≡ EdgeStop.Dense → vec_len edges.old ≡ 400000) }
-{
-    if edges.len() == MOST {
-        return Err(EdgeStop::Dense);
-    }
-    edges.push(edge)?;
-    Ok(())
+    seen[edge.b as usize]
 }

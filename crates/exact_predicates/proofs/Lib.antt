@@ -2,6 +2,7 @@ pub mod Ascending
 pub mod Barycentric
 pub mod Between
 pub mod Bounds
+pub mod Blocking
 pub mod Chains
 pub mod Codes
 pub mod Corners

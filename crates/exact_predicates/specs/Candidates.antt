@@ -1,7 +1,7 @@
 -- Candidate edges, and the empty triangles that they bound.
 use Rattle.std.specs.Prelude.{◌≡◌, ◌≢◌, ◌⊎◌, ℕ, ◌<◌, min, max, ⊤, List, length, All, AllPairs, Any, Contains}
 use Rattle.exact_predicates.specs.declared.diamond.Diamond.{Diamond}
-use Rattle.exact_predicates.specs.declared.diamond.Diamond.TheVariants.{On, Off}
+use Rattle.exact_predicates.specs.declared.diamond.Diamond.TheVariants.{Off, On}
 use Rattle.exact_predicates.specs.declared.edge.Edge.{Edge}
 use Rattle.exact_predicates.specs.declared.point.Point.{Point}
 use Rattle.exact_predicates.specs.declared.tri.Tri.{Tri}
@@ -26,15 +26,15 @@ Joins e u v = (e.a ≡ min u v) × (e.b ≡ max u v)
 abbrev pub HasEdge : List Edge → ℕ → ℕ → Type 0
 HasEdge es u v = Any (λ e. Joins e u v) es
 
--- no point of ps is in the left diamond of u to v
-abbrev pub HasEmptyDiamond : List Point → ℕ → ℕ → Type 0
-HasEmptyDiamond ps u v = (r : ℕ) → r < length ps → ¬ IsInLeftDiamond (point_at ps u) (point_at ps v) (point_at ps r)
+-- no point lies in the left diamond of p to q
+abbrev pub IsDiamondEmpty : List Point → ℕ → ℕ → Type 0
+IsDiamondEmpty ps p q = (r : ℕ) → r < length ps → ¬ IsInLeftDiamond (point_at ps p) (point_at ps q) (point_at ps r)
 
--- e passes the diamond test: it is an edge of the hull, or one of its two diamonds is empty; with the test off each edge does
+-- e passes the diamond test: it is a pair of the hull, in one direction or the other, or one of its two diamonds is empty. With
+-- the test off each edge passes.
 abbrev pub PassesDiamond : Diamond → List Point → List ℕ → Edge → Type 0
-PassesDiamond On ps hull e =
-    (IsHullPair hull e.a e.b ⊎ IsHullPair hull e.b e.a) ⊎ (HasEmptyDiamond ps e.a e.b ⊎ HasEmptyDiamond ps e.b e.a)
 PassesDiamond Off ps hull e = ⊤
+PassesDiamond On ps hull e = (IsHullPair hull e.a e.b ⊎ IsHullPair hull e.b e.a) ⊎ (IsDiamondEmpty ps e.a e.b ⊎ IsDiamondEmpty ps e.b e.a)
 
 -- e is a candidate edge of the points ps with this hull: no point is between its ends, and it passes the test
 pub record IsCandidate (ps : List Point) (hull : List ℕ) (diamond : Diamond) (e : Edge) : Type 0 where

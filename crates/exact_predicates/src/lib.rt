@@ -15,9 +15,9 @@ mod tri;
 pub use diamond::Diamond;
 pub use edge::Edge;
 pub use lists::{Edges, Hull, PointList, Tris};
-pub use point::{Point, d2, in_range, orient};
+pub use point::{Point, d2, dot, in_range, orient};
 pub use points::{Points, PointsStop};
 pub use relations::{
-    crosses, in_closed_triangle, in_left_diamond, strictly_between, strictly_convex,
+    blocks, crosses, in_closed_triangle, in_left_diamond, strictly_between, strictly_convex,
 };
 pub use tri::Tri;

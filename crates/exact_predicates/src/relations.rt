@@ -1,6 +1,7 @@
 // How points lie to segments, triangles and diamonds.
 ghost use Rattle.std.specs.Prelude.{◌↔◌, ◌*◌, ◌^◌, ◌≤◌, ◌<ℤ◌, ◌*ℤ◌, pos, unsigned_abs, IsTrue};
 ghost use Rattle.exact_predicates.specs.Plane.{IsInRange, orient, IsBetween, IsInClosedTriangle, AreApart, Crosses, IsInLeftDiamond};
+ghost use Rattle.exact_predicates.specs.Blocking.{Blocks};
 
 use crate::point::{Point, dot, orient};
 
@@ -78,6 +79,18 @@ pub fn in_left_diamond(p: &Point, q: &Point, r: &Point) -> bool
 {
     let turn = orient(p, q, r);
     turn > 0 && is_flat(turn, dot(p, q, r)) && is_flat(turn, dot(q, p, r))
+}
+
+/// Whether `r` blocks the left side of `p` to `q`: whether it lies in the left diamond or strictly
+/// between the two.
+pub fn blocks(p: &Point, q: &Point, r: &Point) -> bool
+    requires p_in { IsInRange p.now }
+    requires q_in { IsInRange q.now }
+    requires r_in { IsInRange r.now }
+    ensures { IsTrue result ↔ Blocks p.now q.now r.now }
+{
+    let sine = orient(p, q, r);
+    sine >= 0 && is_flat(sine, dot(p, q, r)) && is_flat(sine, dot(q, p, r))
 }
 
 // Whether an angle below a right one, of which these are the sine and the cosine to one scale, has a

@@ -1,8 +1,8 @@
 -- What the parts of a network keep, from what a caller knows of them.
-use Rattle.std.proofs.Common.{◌≢◌, ℕ, ◌+◌, ◌≤◌, List, length, get_or, All, sym, ◌∙◌, ⊎_elim, inl, arith}
+use Rattle.std.proofs.Common.{◌≢◌, ℕ, ◌+◌, ◌≤◌, List, length, get_or, All, sym, ◌∙◌, inl, ⊎_elim, arith}
 use Rattle.std.proofs.lemmas.List.Elements.{Contains-get_or}
 use Rattle.exact_predicates.specs.declared.diamond.Diamond.{Diamond}
-use Rattle.exact_predicates.specs.declared.diamond.Diamond.TheVariants.{On, Off}
+use Rattle.exact_predicates.specs.declared.diamond.Diamond.TheVariants.{Off, On}
 use Rattle.exact_predicates.specs.declared.edge.Edge.{Edge}
 use Rattle.exact_predicates.specs.declared.point.Point.{Point}
 use Rattle.exact_predicates.specs.declared.tri.Tri.{Tri}
@@ -16,18 +16,17 @@ use Rattle.lmt_network.specs.Network.{NetworkParts, IsNetwork}
 use Rattle.lmt_network.specs.Tables.{HasSidesIn}
 use Rattle.lmt_network.proofs.FlipMinimal.{edge-between, hull-edge, pair-candidate}
 
--- an edge of the hull is a candidate with the test off
-hull-clear : (ps : List Point) (hull : List ℕ) (e : Edge) → IsHull ps hull → IsHullEdge hull e → IsCandidate ps hull Off e
-hull-clear ps hull e hull_is h =
+clear-candidate : (ps : List Point) (hull : List ℕ) (e : Edge) → IsHull ps hull → IsHullEdge hull e → IsCandidate ps hull Off e
+clear-candidate ps hull e hull_is h =
     ⊎_elim
     (λ p. pair-candidate ps hull e e.a e.b hull_is (Joins-ends e) p)
     (λ p. pair-candidate ps hull e e.b e.a hull_is (Joins-comm e e.a e.b (Joins-ends e)) p)
     h
 
--- and whatever the test, which an edge of the hull passes
+-- an edge of the hull is a candidate, whatever the test
 pub hull-candidate : (ps : List Point) (hull : List ℕ) (diamond : Diamond) (e : Edge) → IsHull ps hull → IsHullEdge hull e → IsCandidate ps hull diamond e
-hull-candidate ps hull On e hull_is h = let c = hull-clear ps hull e hull_is h in record { b_in = c.b_in; clear = c.clear; passes = inl h }
-hull-candidate ps hull Off e hull_is h = hull-clear ps hull e hull_is h
+hull-candidate ps hull Off e hull_is h = clear-candidate ps hull e hull_is h
+hull-candidate ps hull On e hull_is h = let c = clear-candidate ps hull e hull_is h in record { b_in = c.b_in; clear = c.clear; passes = inl h }
 
 -- the two members of a pair of the hull are two points
 hull-apart : (ps : List Point) (hull : List ℕ) (u v : ℕ) → IsHull ps hull → IsHullPair hull u v → u ≢ v

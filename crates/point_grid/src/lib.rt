@@ -6,9 +6,20 @@
 //! Beside the queries stands the order in which a point sees the points after it.
 #![tactic(auto)]
 
+mod blocking;
+mod box_tree;
 mod direction;
+mod flat;
+mod forms;
+mod frame;
+mod framing;
 mod grid;
 mod sight;
+mod spot;
 
+pub use blocking::{blocks_left_of_all, blocks_right_of_all};
+pub use box_tree::BoxTree;
 pub use direction::{by_direction, is_first_on_ray, is_left};
+pub use frame::Frame;
 pub use grid::Grid;
+pub use spot::{Entry, Spot};

@@ -1,0 +1,99 @@
+-- Numbers on their way through the bits of an i64 or an i128, and products of bounded numbers.
+use Rattle.std.proofs.Common.{arith, ◌≡◌, ◌*◌, ◌^◌, ◌≤◌, ℤ, pos, FitsSigned, ◌+ℤ◌, ◌-ℤ◌, ◌*ℤ◌, ◌≤ℤ◌, ◌<ℤ◌, to_z, of_z, unsigned_abs, IsTrue, [], ◌∷◌, refl}
+use Rattle.std.specs.Int.Signed.{lt_z, le_z}
+use Rattle.std.proofs.lemmas.Int.{ints, unsigned_abs-mul}
+use Rattle.std.proofs.lemmas.Nat.{mul-le}
+use Rattle.exact_predicates.proofs.IntSigns.{mul-nonneg}
+use Rattle.exact_predicates.proofs.Ring.{var, num, less, times, ring}
+use mir.Syntax.{w64, w128}
+
+pub fits_sum : (x y : ℤ) → unsigned_abs x ≤ 8 * 10 ^ 19 → unsigned_abs y ≤ 8 * 10 ^ 19 → FitsSigned w128 (to_z w128 (of_z w128 x) +ℤ to_z w128 (of_z w128 y))
+fits_sum x y h k = omega (arith, ints)
+
+pub kept_sum : (x y : ℤ) → unsigned_abs x ≤ 8 * 10 ^ 19 → unsigned_abs y ≤ 8 * 10 ^ 19 → to_z w128 (of_z w128 (to_z w128 (of_z w128 x) +ℤ to_z w128 (of_z w128 y))) ≡ x +ℤ y
+kept_sum x y h k = omega (arith, ints)
+
+pub kept : (x : ℤ) → unsigned_abs x ≤ 8 * 10 ^ 19 → to_z w128 (of_z w128 x) ≡ x
+kept x h = omega (arith, ints)
+
+pub distribute : (a b c : ℤ) → a *ℤ (b -ℤ c) ≡ (a *ℤ b) -ℤ (a *ℤ c)
+distribute a b c = ring (a ∷ b ∷ c ∷ []) (times (var 0) (less (var 1) (var 2))) (less (times (var 0) (var 1)) (times (var 0) (var 2))) (omega arith)
+
+-- products with a number that is not negative, and with one that is not positive, in the order of their factors
+pub mul-le_up : (a b c : ℤ) → pos 0 ≤ℤ a → b ≤ℤ c → (a *ℤ b) ≤ℤ (a *ℤ c)
+mul-le_up a b c h k = omega (arith, ints, distribute a c b, mul-nonneg a (c -ℤ b) h (omega (arith, ints)))
+
+turned : (a b c : ℤ) → (pos 0 -ℤ a) *ℤ (b -ℤ c) ≡ (a *ℤ c) -ℤ (a *ℤ b)
+turned a b c = ring (a ∷ b ∷ c ∷ []) (times (less (num (pos 0)) (var 0)) (less (var 1) (var 2))) (less (times (var 0) (var 2)) (times (var 0) (var 1))) (omega arith)
+
+pub mul-le_down : (a b c : ℤ) → a ≤ℤ pos 0 → b ≤ℤ c → (a *ℤ c) ≤ℤ (a *ℤ b)
+mul-le_down a b c h k = omega (arith, ints, turned a c b, mul-nonneg (pos 0 -ℤ a) (c -ℤ b) (omega (arith, ints)) (omega (arith, ints)))
+
+-- the least square between two numbers of one sign
+pub square_up : (a x : ℤ) → pos 0 ≤ℤ a → a ≤ℤ x → (a *ℤ a) ≤ℤ (x *ℤ x)
+square_up a x h k = omega (arith, ints, mul-le_up a a x h k, swapped a x, mul-le_up x a x (omega (arith, ints)) k)
+  where
+    swapped : (a x : ℤ) → a *ℤ x ≡ x *ℤ a
+    swapped a x = ring (a ∷ x ∷ []) (times (var 0) (var 1)) (times (var 1) (var 0)) (omega arith)
+
+pub square_down : (a x : ℤ) → a ≤ℤ pos 0 → x ≤ℤ a → (a *ℤ a) ≤ℤ (x *ℤ x)
+square_down a x h k = omega (arith, ints, mul-le_down a x a h k, swapped a x, mul-le_down x x a (omega (arith, ints)) k)
+  where
+    swapped : (a x : ℤ) → a *ℤ x ≡ x *ℤ a
+    swapped a x = ring (a ∷ x ∷ []) (times (var 0) (var 1)) (times (var 1) (var 0)) (omega arith)
+
+-- the same for an i64
+pub kept64 : (x : ℤ) → unsigned_abs x ≤ 2 * 10 ^ 10 → to_z w64 (of_z w64 x) ≡ x
+kept64 x h = omega (arith, ints)
+
+pub sum_le : (a b c d : ℤ) → a ≤ℤ c → b ≤ℤ d → (a +ℤ b) ≤ℤ (c +ℤ d)
+sum_le a b c d h k = omega (arith, ints)
+
+small_product : (m x : ℤ) → unsigned_abs m ≤ 5 → unsigned_abs x ≤ 2 * 10 ^ 9 → unsigned_abs (m *ℤ x) ≤ 10 ^ 10
+small_product m x h k = omega (arith, unsigned_abs-mul m x, mul-le _ _ _ _ h k)
+
+small_sum : (a b : ℤ) → unsigned_abs a ≤ 10 ^ 10 → unsigned_abs b ≤ 10 ^ 10 → unsigned_abs (a +ℤ b) ≤ 2 * 10 ^ 10
+small_sum a b h k = omega (arith, ints)
+
+module _ (m x n y : ℤ) (hm : unsigned_abs m ≤ 5) (hx : unsigned_abs x ≤ 2 * 10 ^ 9) (hn : unsigned_abs n ≤ 5) (hy : unsigned_abs y ≤ 2 * 10 ^ 9) where
+  -- a sum of small multiples
+  pub mixed_le : unsigned_abs ((m *ℤ x) +ℤ (n *ℤ y)) ≤ 2 * 10 ^ 10
+  mixed_le = small_sum (m *ℤ x) (n *ℤ y) (small_product m x hm hx) (small_product n y hn hy)
+
+  parts : to_z w64 (of_z w64 (to_z w64 (of_z w64 m) *ℤ to_z w64 (of_z w64 x))) +ℤ to_z w64 (of_z w64 (to_z w64 (of_z w64 n) *ℤ to_z w64 (of_z w64 y))) ≡ (m *ℤ x) +ℤ (n *ℤ y)
+  parts =
+      let p = small_product m x hm hx in
+      let q = small_product n y hn hy in
+      rw (kept64 m (omega arith), kept64 x (omega arith), kept64 n (omega arith), kept64 y (omega arith), kept64 (m *ℤ x) (omega arith), kept64 (n *ℤ y) (omega arith)) refl
+
+  pub fits_mixed : FitsSigned w64 (to_z w64 (of_z w64 (to_z w64 (of_z w64 m) *ℤ to_z w64 (of_z w64 x))) +ℤ to_z w64 (of_z w64 (to_z w64 (of_z w64 n) *ℤ to_z w64 (of_z w64 y))))
+  fits_mixed = rw parts (fits _ mixed_le)
+    where
+      fits : (z : ℤ) → unsigned_abs z ≤ 2 * 10 ^ 10 → FitsSigned w64 z
+      fits z h = omega (arith, ints)
+
+  pub kept_mixed : to_z w64 (of_z w64 (to_z w64 (of_z w64 (to_z w64 (of_z w64 m) *ℤ to_z w64 (of_z w64 x))) +ℤ to_z w64 (of_z w64 (to_z w64 (of_z w64 n) *ℤ to_z w64 (of_z w64 y))))) ≡ (m *ℤ x) +ℤ (n *ℤ y)
+  kept_mixed = rw parts (kept64 _ mixed_le)
+
+-- tests
+pub true_lt : (a b : ℤ) → a <ℤ b → IsTrue (lt_z a b)
+true_lt a b h = grind (arith, ints)
+
+pub lt_true : (a b : ℤ) → IsTrue (lt_z a b) → a <ℤ b
+lt_true a b h = grind (arith, ints)
+
+pub true_le : (a b : ℤ) → a ≤ℤ b → IsTrue (le_z a b)
+true_le a b h = grind (arith, ints)
+
+pub le_true : (a b : ℤ) → IsTrue (le_z a b) → a ≤ℤ b
+le_true a b h = grind (arith, ints)
+
+-- a number and four times another
+pub fits_more : (x n : ℤ) → unsigned_abs x ≤ 8 * 10 ^ 19 → unsigned_abs n ≤ 8 * 10 ^ 19 → FitsSigned w128 (to_z w128 (of_z w128 x) +ℤ to_z w128 (of_z w128 (pos 4 *ℤ to_z w128 (of_z w128 n))))
+fits_more x n h k = omega (arith, ints)
+
+pub kept_more : (x n : ℤ) → unsigned_abs x ≤ 8 * 10 ^ 19 → unsigned_abs n ≤ 8 * 10 ^ 19 → to_z w128 (of_z w128 (to_z w128 (of_z w128 x) +ℤ to_z w128 (of_z w128 (pos 4 *ℤ to_z w128 (of_z w128 n))))) ≡ x +ℤ (pos 4 *ℤ n)
+kept_more x n h k = omega (arith, ints)
+
+pub le_through : (a b c : ℤ) → a ≤ℤ b → b ≤ℤ c → a ≤ℤ c
+le_through a b c h k = omega (arith, ints)
