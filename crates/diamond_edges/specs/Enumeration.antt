@@ -1,5 +1,5 @@
 -- The candidate edges as far as they are enumerated.
-use Rattle.std.specs.Prelude.{◌≡◌, ◌↔◌, ◌⊎◌, ℕ, ◌<◌, Bool, false, IsTrue, List, length, All, AllPairs, Contains, slice_index_or}
+use Rattle.std.specs.Prelude.{◌≡◌, ◌≢◌, ◌↔◌, ◌⊎◌, ℕ, ◌<◌, Bool, false, IsTrue, List, length, All, AllPairs, Contains, slice_index_or}
 use Rattle.exact_predicates.specs.declared.diamond.Diamond.{Diamond}
 use Rattle.exact_predicates.specs.declared.edge.Edge.{Edge}
 use Rattle.exact_predicates.specs.declared.point.Point.{Point}
@@ -10,6 +10,12 @@ use Rattle.point_grid.specs.Directions.{Sees}
 pub record MarksSeen (ps : List Point) (a : ℕ) (marks : List Bool) : Type 0 where
   pub whole : length marks ≡ length ps
   pub marked : (b : ℕ) → a < b → b < length ps → IsTrue (slice_index_or marks b false) ↔ Sees ps a b
+
+-- the numbers between a and n, each once
+pub record AreNumbersBetween (a n : ℕ) (numbers : List ℕ) : Type 0 where
+  pub each : All (λ b. (a < b) × (b < n)) numbers
+  pub all : (b : ℕ) → a < b → b < n → Contains numbers b
+  pub distinct : AllPairs (λ b c. b ≢ c) numbers
 
 -- e comes before the edge with the ends a and b
 abbrev pub IsBefore : ℕ → ℕ → Edge → Type 0

@@ -1,6 +1,6 @@
 // Which points a point sees.
 ghost use Rattle.std.specs.Prelude.{◌<◌, length, IfOk};
-ghost use Rattle.diamond_edges.specs.Enumeration.{MarksSeen};
+ghost use Rattle.diamond_edges.specs.Enumeration.{MarksSeen, AreNumbersBetween};
 
 use exact_predicates::Points;
 use mwt_base::NoMemory;
@@ -13,11 +13,24 @@ pub(crate) fn seen_from(alloc: Global, points: &Points, a: u32) -> Result<Vec<bo
     requires { a < length points.now.points }
     ensures { IfOk result (λ marks. MarksSeen points.now.points a marks.items) }
 {
-    let count = points.len() as usize;
-    let order = by_direction(alloc, points, a)?;
-    let mut marks = vec![in alloc; false; count]?;
+    let count = points.len();
+    let later = numbers_after(alloc, a, count)?;
+    let order = by_direction(alloc, points, a, &later)?;
+    let mut marks = vec![in alloc; false; count as usize]?;
     for k in 0..order.len() {
         marks[order[k] as usize] = is_first_on_ray(points, a, &order, k);
     }
     Ok(marks)
+}
+
+// The numbers after `a` and below `count`.
+fn numbers_after(alloc: Global, a: u32, count: u32) -> Result<Vec<u32>, NoMemory>
+    requires { a < count }
+    ensures { IfOk result (λ numbers. AreNumbersBetween a count numbers.items) }
+{
+    let mut numbers = Vec::new(alloc);
+    for b in a + 1..count {
+        numbers.push(b)?;
+    }
+    Ok(numbers)
 }

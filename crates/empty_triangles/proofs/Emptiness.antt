@@ -1,5 +1,5 @@
 -- When a triangle over a list of edges is empty.
-use Rattle.std.proofs.Common.{◌≡◌, ◌≢◌, ◌↔◌, ℕ, ◌<◌, ◌≤◌, Bool, IsTrue, pos, ◌<ℤ◌, List, length, get_or, slice_index, Contains, Result, Ok, Err, is_ok, nat_cmp, ⊎_elim, sym, ◌∙◌, subst, arith}
+use Rattle.std.proofs.Common.{◌≡◌, ◌≢◌, ◌↔◌, ℕ, ◌<◌, ◌≤◌, Bool, IsTrue, pos, ◌<ℤ◌, List, length, slice_index, Contains, Result, Ok, Err, is_ok, nat_cmp, ⊎_elim, sym, ◌∙◌, subst, arith}
 use Rattle.std.proofs.lemmas.Bool.{cases_lt}
 use Rattle.std.proofs.lemmas.Int.{ints}
 use Rattle.std.proofs.lemmas.List.{get_or_default}
@@ -12,7 +12,7 @@ use Rattle.exact_predicates.specs.Candidates.{HasEdge, IsEmptyOver}
 use Rattle.exact_predicates.specs.Plane.{orient}
 use Rattle.exact_predicates.specs.PointSet.{point_at}
 use Rattle.exact_predicates.proofs.Equalities.{HasEdge-comm}
-use Rattle.empty_triangles.specs.Enumeration.{IsRow, IsBare, AreThirds}
+use Rattle.empty_triangles.specs.Enumeration.{IsBare, IsThird}
 use Rattle.empty_triangles.proofs.Fans.{flat_last}
 
 -- whether a number is in an ascending list
@@ -28,10 +28,6 @@ Contains-searched xs x (Err k) found h sorted is =
           let here = get_or_default xs m 0 x m_in ∙ at_m in
           absurd (⊎_elim (λ l. omega (arith, below m l)) (λ l. omega (arith, above m l m_in)) (cases_lt m k)),
     )
-
--- what is listed is a third corner
-pub third_is_bare : (ps : List Point) (a b c : ℕ) (cs : List ℕ) → AreThirds ps a b cs → Contains cs c → IsBare ps a b c
-third_is_bare ps a b c cs h (m, m_in, at_m) = subst (IsBare ps a b) at_m (h.each m c m_in)
 
 -- the second and the third corner differ
 pub IsBare-apart : (ps : List Point) (a b c : ℕ) → IsBare ps a b c → b ≢ c
@@ -49,38 +45,19 @@ IsEmptyOver-bare ps es t b_in h ab bc ac =
       ca = HasEdge-comm es t.a t.c ac;
     }
 
-module _ (ps : List Point) (es : List Edge) (a b c i j : ℕ) (row cs : List ℕ) (r : IsRow es a row) (i_in : i < length row) (j_in : j < length row)
-    (at_b : b ≡ get_or row i b) (at_c : c ≡ get_or row j c) (h : AreThirds ps a b cs) where
-  second : b ≡ slice_index row i
-  second = at_b ∙ get_or_default row i b 0 i_in
+-- a third corner makes one
+pub IsEmptyOver-third : (ps : List Point) (es : List Edge) (a b c : ℕ) (t : Tri) → b < length ps → HasEdge es a b → IsThird ps es a b c → t.a ≡ a → t.b ≡ b → t.c ≡ c → IsEmptyOver ps es t
+IsEmptyOver-third ps es a b c t b_in ab h ea eb ec =
+    IsEmptyOver-bare ps es t (omega arith)
+    (rw (ea, eb, ec) h.bare)
+    (rw (ea, eb) ab)
+    (rw (eb, ec) h.bc)
+    (rw (ea, ec) h.ac)
 
-  third : c ≡ slice_index row j
-  third = at_c ∙ get_or_default row j c 0 j_in
-
-  -- two places of a row, of which the second is that of a third corner
-  pub row_triangle : (t : Tri) → b < length ps → (t.a ≡ a) × (t.b ≡ b) × (t.c ≡ c) × Contains cs c × HasEdge es b c
-      → (t.a ≡ a) × (t.b ≡ slice_index row i) × (t.c ≡ slice_index row j) × IsEmptyOver ps es t
-  row_triangle t b_in (ea, eb, ec, has, bc) =
-      let ab = (r.each i 0 i_in).1 in
-      let ac = (r.each j 0 j_in).1 in (
-        ea,
-        eb ∙ second,
-        ec ∙ third,
-        IsEmptyOver-bare ps es t (omega (arith, eb))
-            (subst (λ (x : ℕ). IsBare ps x t.b t.c) (sym ea) (subst (λ (y : ℕ). IsBare ps a y t.c) (sym eb) (subst (λ (z : ℕ). IsBare ps a b z) (sym ec) (third_is_bare ps a b c cs h has))))
-            (subst (λ (x : ℕ). HasEdge es x t.b) (sym ea) (subst (λ (y : ℕ). HasEdge es a y) (sym (eb ∙ second)) ab))
-            (subst (λ (x : ℕ). HasEdge es x t.c) (sym eb) (subst (λ (y : ℕ). HasEdge es b y) (sym ec) bc))
-            (subst (λ (x : ℕ). HasEdge es x t.c) (sym ea) (subst (λ (y : ℕ). HasEdge es a y) (sym (ec ∙ third)) ac)),
-      )
-
-  -- and two others
-  pub row_none : (¬ (Contains cs c × HasEdge es b c)) → (t : Tri) → t.a ≡ a → t.b ≡ slice_index row i → t.c ≡ slice_index row j → ¬ IsEmptyOver ps es t
-  row_none none t ea eb ec e =
-      let is_b : t.b ≡ b = eb ∙ sym second in
-      let is_c : t.c ≡ c = ec ∙ sym third in
-      let up = t.below_c in
-      let bare : IsBare ps t.a t.b t.c = record { after = t.below_c; c_in = e.empty.c_in; turns_left = e.empty.turns_left; bare = e.empty.bare } in
-      none (
-        h.all c (subst (λ (x : ℕ). IsBare ps x b c) ea (subst (λ (y : ℕ). IsBare ps t.a y c) is_b (subst (λ (z : ℕ). IsBare ps t.a t.b z) is_c bare))),
-        subst (λ (x : ℕ). HasEdge es x c) is_b (subst (λ (y : ℕ). HasEdge es t.b y) is_c e.bc),
-      )
+-- and each one has a third corner
+pub IsThird-empty : (ps : List Point) (es : List Edge) (t : Tri) → IsEmptyOver ps es t → IsThird ps es t.a t.b t.c
+IsThird-empty ps es t e = record {
+  bare = record { after = t.below_c; c_in = e.empty.c_in; turns_left = e.empty.turns_left; bare = e.empty.bare };
+  ac = HasEdge-comm es t.c t.a e.ca;
+  bc = e.bc;
+}

@@ -1,4 +1,10 @@
+pub mod Corners
 pub mod Emptiness
 pub mod Ends
 pub mod Fans
+pub mod HalfTurns
+pub mod Heads
 pub mod Lists
+pub mod Ranges
+pub mod Seen
+pub mod Thirds

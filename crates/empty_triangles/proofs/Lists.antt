@@ -1,15 +1,41 @@
 -- The empty triangles, listed in their order.
-use Rattle.std.proofs.Common.{◌≡◌, ◌≢◌, ◌⊎◌, ℕ, ◌+◌, ◌<◌, ◌≤◌, List, [], ◌∷◌, ◌++◌, length, slice_index, get_or, Contains, inl, inr, ⊎_elim, refl, arith, sym, ◌∙◌, ap, subst, length-append}
+use Rattle.std.proofs.Common.{◌≡◌, ◌≢◌, ◌⊎◌, ℕ, ◌+◌, ◌-◌, ◌<◌, ◌≤◌, List, [], ◌++◌, length, slice_index, get_or, All, AllPairs, Contains, inl, inr, ⊎_elim, refl, arith, sym, ◌∙◌, ap, subst, length-append}
 use Rattle.std.proofs.lemmas.Bool.{cases_lt}
-use Rattle.std.proofs.lemmas.List.{get_or_default}
-use Rattle.std.proofs.lemmas.List.Elements.{All-push, All-weaker, Contains-push, Contains-append_left}
-use Rattle.std.proofs.lemmas.List.Quantifiers.{all_pairs_push}
+use Rattle.std.proofs.lemmas.List.{get_or_default, get_or_append_left, get_or-append_right}
+use Rattle.std.proofs.lemmas.List.Elements.{All-append, All-weaker, Contains-append_left, Contains-append_right}
 use Rattle.exact_predicates.specs.declared.edge.Edge.{Edge}
 use Rattle.exact_predicates.specs.declared.point.Point.{Point}
 use Rattle.exact_predicates.specs.declared.tri.Tri.{Tri}
 use Rattle.exact_predicates.specs.Candidates.{TriPrecedes, HasEdge, IsEmptyOver, AreTrianglesOver, AreMoreThan}
-use Rattle.exact_predicates.proofs.Equalities.{Tri-equal, HasEdge-comm}
-use Rattle.empty_triangles.specs.Enumeration.{IsRow, IsFromRow, IsBefore, AreTrianglesWith}
+use Rattle.exact_predicates.proofs.Equalities.{Tri-equal}
+use Rattle.empty_triangles.specs.Enumeration.{IsRow, IsFan, AreThirds, AreTrianglesWith}
+use Rattle.empty_triangles.proofs.Emptiness.{IsEmptyOver-third, IsThird-empty}
+
+-- t has the first corner a, and the second at a place of the row before i
+pub record IsFromFan (a : ℕ) (row : List ℕ) (i : ℕ) (t : Tri) : Type 0 where
+  pub place : ℕ
+  pub place_in : place < i
+  pub first : t.a ≡ a
+  pub second : t.b ≡ slice_index row place
+
+-- what holds of each two members of two lists, and of each one of the first with each one of the second
+AllPairs-append : {X : Type 0} (R : X → X → Type 0) (xs ys : List X) → AllPairs R xs → AllPairs R ys → ((i j : ℕ) (d : X) → i < length xs → j < length ys → R (get_or xs i d) (get_or ys j d)) → AllPairs R (xs ++ ys)
+AllPairs-append R xs ys h k across i j d l j_in =
+    ⊎_elim
+    (λ m. rw (get_or_append_left xs ys d i (omega arith), get_or_append_left xs ys d j m) (h i j d l m))
+    (λ m. let n = length-append xs ys in
+    ⊎_elim
+    (λ p. rw (get_or_append_left xs ys d i p, get_or-append_right xs ys (length xs) j d refl m) (across i (j - length xs) d p (omega arith)))
+    (λ p. rw (get_or-append_right xs ys (length xs) i d refl p, get_or-append_right xs ys (length xs) j d refl m) (k (i - length xs) (j - length xs) d (omega arith) (omega arith)))
+    (cases_lt i (length xs)))
+    (cases_lt j (length xs))
+
+-- the greater end of an edge is one of the points
+pub HasEdge-within : (es : List Edge) (n a b : ℕ) → All (λ e. e.b < n) es → a < b → HasEdge es a b → b < n
+HasEdge-within es n a b within up (m, e, m_in, at_m, j) =
+    let l = within m e m_in in
+    let is = ap (λ (x : Edge). x.b) at_m in
+    omega (arith, j.1)
 
 module _ (ps : List Point) (es : List Edge) where
   -- another way to say which triangles are listed
@@ -21,17 +47,13 @@ module _ (ps : List Point) (es : List Edge) where
     all = λ t q e. h.all t (back t e q) e;
   }
 
-  -- one more, behind all others
-  with_push : (P : Tri → Type 0) (ts : List Tri) (t : Tri) → AreTrianglesWith ps es P ts → IsEmptyOver ps es t → ((s : Tri) → P s → TriPrecedes s t) → AreTrianglesWith ps es (λ s. P s ⊎ (s ≡ t)) (ts ++ t ∷ [])
-  with_push P ts t h e last = record {
-    ascending = all_pairs_push TriPrecedes ts t h.ascending (λ k d l. last (get_or ts k d) (h.are k d l));
-    are = All-push (λ s. P s ⊎ (s ≡ t)) ts t (All-weaker P (λ s. P s ⊎ (s ≡ t)) (λ s p. inl p) ts h.are) (inr refl);
-    each = All-push (IsEmptyOver ps es) ts t h.each e;
-    all = λ s p f.
-        ⊎_elim
-        (λ old. Contains-append_left ts (t ∷ []) s (h.all s old f))
-        (λ new. subst (λ (x : Tri). Contains (ts ++ t ∷ []) x) (sym new) (Contains-push ts t))
-        p;
+  -- two lists, of which the second comes after the first
+  with_append : (P Q : Tri → Type 0) (ts us : List Tri) → AreTrianglesWith ps es P ts → AreTrianglesWith ps es Q us → ((s t : Tri) → P s → Q t → TriPrecedes s t) → AreTrianglesWith ps es (λ t. P t ⊎ Q t) (ts ++ us)
+  with_append P Q ts us h k last = record {
+    ascending = AllPairs-append TriPrecedes ts us h.ascending k.ascending (λ i j d l m. last _ _ (h.are i d l) (k.are j d m));
+    are = All-append (λ t. P t ⊎ Q t) ts us (All-weaker P (λ t. P t ⊎ Q t) (λ t p. inl p) ts h.are) (All-weaker Q (λ t. P t ⊎ Q t) (λ t q. inr q) us k.are);
+    each = All-append (IsEmptyOver ps es) ts us h.each k.each;
+    all = λ t p e. ⊎_elim (λ l. Contains-append_left ts us t (h.all t l e)) (λ r. Contains-append_right ts us t (k.all t r e)) p;
   }
 
   -- at first
@@ -51,121 +73,82 @@ module _ (ps : List Point) (es : List Edge) where
     all = λ t e. let a_in = e.empty.a_in in h.all t (omega arith) e;
   }
 
-  -- the first row, and each next one
-  pub with_row : (a : ℕ) (row : List ℕ) (ts : List Tri) → AreTrianglesWith ps es (λ t. t.a < a) ts → AreTrianglesWith ps es (IsBefore a row 0 0) ts
-  with_row a row ts = with_same (λ t. t.a < a) (IsBefore a row 0 0) ts (λ t l. inl l) (λ t e. ⊎_elim (λ l. l) (λ f. absurd (none a row t f)))
-    where
-      none : (a : ℕ) (row : List ℕ) (t : Tri) → ¬ IsFromRow a row 0 0 t
-      none a row t f = ⊎_elim (λ l. omega arith) (λ r. let r1 = r.1 in omega arith) f.before
+  -- one more first corner
+  pub with_next_row : (a : ℕ) (ts us : List Tri) → AreTrianglesWith ps es (λ t. t.a < a) ts → AreTrianglesWith ps es (λ t. t.a ≡ a) us → AreTrianglesWith ps es (λ t. t.a < a + 1) (ts ++ us)
+  with_next_row a ts us h k =
+      with_same (λ t. (t.a < a) ⊎ (t.a ≡ a)) (λ t. t.a < a + 1) (ts ++ us)
+      (λ t. ⊎_elim (λ l. omega arith) (λ e. omega arith))
+      (λ t e l. ⊎_elim (λ m. inl m) (λ m. inr (omega arith)) (cases_lt t.a a))
+      (with_append (λ t. t.a < a) (λ t. t.a ≡ a) ts us h k (λ s t l e. inl (omega arith)))
 
-  -- a row is done
-  pub with_next_row : (a i : ℕ) (row : List ℕ) (ts : List Tri) → IsRow es a row → length row ≤ i → AreTrianglesWith ps es (IsBefore a row i 0) ts → AreTrianglesWith ps es (λ t. t.a < a + 1) ts
-  with_next_row a i row ts r past =
-      with_same (IsBefore a row i 0) (λ t. t.a < a + 1) ts
-      (λ t. ⊎_elim (λ l. omega arith) (λ f. let first = f.first in omega arith))
-      (λ t e l. ⊎_elim (λ less. inl less) (λ same. inr (from t e (omega arith))) (cases_lt t.a a))
+  -- the fans of a first corner: at first, and one more
+  pub with_no_fan : (a : ℕ) (row : List ℕ) → AreTrianglesWith ps es (IsFromFan a row 0) []
+  with_no_fan a row = record {
+    ascending = λ i j d l k. absurd (omega arith);
+    are = λ k d l. absurd (omega arith);
+    each = λ k d l. absurd (omega arith);
+    all = λ t p e. let l = p.place_in in absurd (omega arith);
+  }
+
+  pub with_next_fan : (a i : ℕ) (row : List ℕ) (ts us : List Tri) → IsRow es a row → i < length row → AreTrianglesWith ps es (IsFromFan a row i) ts → AreTrianglesWith ps es (λ t. (t.a ≡ a) × (t.b ≡ slice_index row i)) us
+      → AreTrianglesWith ps es (IsFromFan a row (i + 1)) (ts ++ us)
+  with_next_fan a i row ts us r i_in h k =
+      with_same (λ t. IsFromFan a row i t ⊎ ((t.a ≡ a) × (t.b ≡ slice_index row i))) (IsFromFan a row (i + 1)) (ts ++ us)
+      (λ t. ⊎_elim
+      (λ f. let l = f.place_in in record { place = f.place; place_in = omega arith; first = f.first; second = f.second })
+      (λ s. record { place = i; place_in = omega arith; first = s.0; second = s.1 }))
+      (λ t e f. let p_in = f.place_in in ⊎_elim
+      (λ l. inl (record { place = f.place; place_in = l; first = f.first; second = f.second }))
+      (λ l. let same : f.place ≡ i = omega arith in inr (f.first, f.second ∙ ap (slice_index row) same))
+      (cases_lt f.place i))
+      (with_append (IsFromFan a row i) (λ t. (t.a ≡ a) × (t.b ≡ slice_index row i)) ts us h k
+      (λ s t f q. let first = f.first in let second = f.second in let q0 = q.0 in let q1 = q.1 in
+      let m = r.ascending f.place i 0 f.place_in i_in in inr (inl (omega arith, omega arith))))
+
+  -- all fans are done
+  pub with_all_fans : (a i : ℕ) (row : List ℕ) (ts : List Tri) → IsRow es a row → length row ≤ i → i ≤ length row → AreTrianglesWith ps es (IsFromFan a row i) ts → AreTrianglesWith ps es (λ t. t.a ≡ a) ts
+  with_all_fans a i row ts r past within =
+      with_same (IsFromFan a row i) (λ t. t.a ≡ a) ts (λ t f. f.first) from
     where
-      from : (t : Tri) → IsEmptyOver ps es t → t.a ≡ a → IsFromRow a row i 0 t
+      from : (t : Tri) → IsEmptyOver ps es t → t.a ≡ a → IsFromFan a row i t
       from t e same =
-          let b_up = t.below_b in
-          let c_up = t.below_c in
+          let up = t.below_b in
           let (p, p_in, at_p) = r.all t.b (omega arith) (subst (λ (x : ℕ). HasEdge es x t.b) same e.ab) in
-          let (q, q_in, at_q) = r.all t.c (omega arith) (subst (λ (x : ℕ). HasEdge es x t.c) same (HasEdge-comm es t.c t.a e.ca)) in
-          record {
-            p = p;
-            q = q;
-            p_in = p_in;
-            q_in = q_in;
-            first = same;
-            second = sym (get_or_default row p 0 t.b p_in ∙ at_p);
-            third = sym (get_or_default row q 0 t.c q_in ∙ at_q);
-            before = inl (omega arith);
-          }
+          record { place = p; place_in = omega arith; first = same; second = sym (get_or_default row p 0 t.b p_in ∙ at_p) }
 
-  -- a fan is done
-  pub with_next_fan : (a i j : ℕ) (row : List ℕ) (ts : List Tri) → length row ≤ j → AreTrianglesWith ps es (IsBefore a row i j) ts → AreTrianglesWith ps es (IsBefore a row (i + 1) 0) ts
-  with_next_fan a i j row ts past =
-      with_same (IsBefore a row i j) (IsBefore a row (i + 1) 0) ts
-      (λ t. ⊎_elim (λ l. inl l) (λ f. inr (moved t i j (i + 1) 0 f (⊎_elim (λ l. inl (omega arith)) (λ r. let r0 = r.0 in inl (omega arith)) f.before))))
-      (λ t e. ⊎_elim (λ l. inl l)
-      (λ f. let q_in = f.q_in in
-      inr (moved t (i + 1) 0 i j f
-      (⊎_elim (λ l. ⊎_elim (λ m. inl m) (λ m. inr (omega arith, omega arith)) (cases_lt f.p i)) (λ r. let r1 = r.1 in absurd (omega arith)) f.before))))
+  -- a fan has all triangles with its two corners
+  pub AreTrianglesWith-fan : (a b : ℕ) (cs : List ℕ) (us : List Tri) → a < b → b < length ps → HasEdge es a b → AreThirds ps es a b cs → AllPairs ◌<◌ cs → IsFan a b cs us → AreTrianglesWith ps es (λ t. (t.a ≡ a) × (t.b ≡ b)) us
+  AreTrianglesWith-fan a b cs us up b_in ab h rising f = record {
+    ascending = λ i j d l m.
+        let p = f.each i d (omega arith) in
+        let q = f.each j d m in
+        let n = f.count in
+        let p0 = p.0 in let p1 = p.1 in let p2 = p.2 in let q0 = q.0 in let q1 = q.1 in let q2 = q.2 in
+        let lt = rising i j 0 l (omega arith) in
+        inr (inr (omega arith, omega arith, omega arith));
+    are = λ k d l. let p = f.each k d l in (p.0, p.1);
+    each = λ k d l.
+        let p = f.each k d l in
+        let n = f.count in
+        IsEmptyOver-third ps es a b (slice_index cs k) (get_or us k d) b_in ab (h.each k 0 (omega arith)) p.0 p.1 p.2;
+    all = λ t p e. found t p.0 p.1 (h.all t.c (rw p.1 at (rw p.0 at (IsThird-empty ps es t e))));
+  }
     where
-      moved : (t : Tri) (i j k l : ℕ) (f : IsFromRow a row i j t) → (f.p < k) ⊎ ((f.p ≡ k) × (f.q < l)) → IsFromRow a row k l t
-      moved t i j k l f h = record { p = f.p; q = f.q; p_in = f.p_in; q_in = f.q_in; first = f.first; second = f.second; third = f.third; before = h }
+      found : (t : Tri) → t.a ≡ a → t.b ≡ b → Contains cs t.c → Contains us t
+      found t ea eb (k, k_in, at_k) =
+          let n = f.count in
+          let k_us : k < length us = omega arith in
+          let q = f.each k t k_us in
+          (k, k_us, Tri-equal (get_or us k t) t (q.0 ∙ sym ea) (q.1 ∙ sym eb) (q.2 ∙ (get_or_default cs k 0 t.c k_in ∙ at_k)))
 
-  -- what comes before the next place is the triangle here, or comes before it
-  here_or_before : (a i j : ℕ) (row : List ℕ) (t s : Tri) → t.a ≡ a → t.b ≡ slice_index row i → t.c ≡ slice_index row j → IsBefore a row i (j + 1) s → IsBefore a row i j s ⊎ (s ≡ t)
-  here_or_before a i j row t s ea eb ec =
-      ⊎_elim (λ l. inl (inl l))
-      (λ f. ⊎_elim
-      (λ l. inl (inr (record { p = f.p; q = f.q; p_in = f.p_in; q_in = f.q_in; first = f.first; second = f.second; third = f.third; before = inl l })))
-      (λ r. let r1 = r.1 in
-      ⊎_elim
-      (λ l. inl (inr (record { p = f.p; q = f.q; p_in = f.p_in; q_in = f.q_in; first = f.first; second = f.second; third = f.third; before = inr (r.0, l) })))
-      (λ l. let same : f.q ≡ j = omega arith in
-      inr (Tri-equal s t (f.first ∙ sym ea) (f.second ∙ (ap (slice_index row) r.0 ∙ sym eb)) (f.third ∙ (ap (slice_index row) same ∙ sym ec))))
-      (cases_lt f.q j))
-      f.before)
-
-  -- what comes before the place here comes before the next one
-  still_before : (a i j : ℕ) (row : List ℕ) (s : Tri) → IsBefore a row i j s → IsBefore a row i (j + 1) s
-  still_before a i j row s =
-      ⊎_elim (λ l. inl l)
-      (λ f. inr (record {
-        p = f.p;
-        q = f.q;
-        p_in = f.p_in;
-        q_in = f.q_in;
-        first = f.first;
-        second = f.second;
-        third = f.third;
-        before = ⊎_elim (λ l. inl l) (λ r. let r1 = r.1 in inr (r.0, omega arith)) f.before;
-      }))
-
-  -- the triangle here is one more
-  pub with_here : (a i j : ℕ) (row : List ℕ) (ts : List Tri) (t : Tri) → IsRow es a row → i < length row → j < length row → t.a ≡ a → t.b ≡ slice_index row i → t.c ≡ slice_index row j → IsEmptyOver ps es t
-      → AreTrianglesWith ps es (IsBefore a row i j) ts → AreTrianglesWith ps es (IsBefore a row i (j + 1)) (ts ++ t ∷ [])
-  with_here a i j row ts t r i_in j_in ea eb ec e h =
-      with_same (λ s. IsBefore a row i j s ⊎ (s ≡ t)) (IsBefore a row i (j + 1)) (ts ++ t ∷ [])
-      (λ s. ⊎_elim (still_before a i j row s)
-      (λ same. subst (IsBefore a row i (j + 1)) (sym same)
-      (inr (record { p = i; q = j; p_in = i_in; q_in = j_in; first = ea; second = eb; third = ec; before = inr (refl, omega arith) }))))
-      (λ s f. here_or_before a i j row t s ea eb ec)
-      (with_push (IsBefore a row i j) ts t h e
-      (λ s. ⊎_elim (λ l. inl (omega arith))
-      (λ f. let first = f.first in let second = f.second in let third = f.third in inr (⊎_elim
-      (λ l. let m = r.ascending f.p i 0 l i_in in inl (omega arith, omega arith))
-      (λ k. let m = r.ascending f.q j 0 k.1 j_in in inr (omega arith, omega (arith, ap (slice_index row) k.0), omega arith))
-      f.before))))
-
-  -- there is no triangle here
-  pub with_none_here : (a i j : ℕ) (row : List ℕ) (ts : List Tri) → ((t : Tri) → t.a ≡ a → t.b ≡ slice_index row i → t.c ≡ slice_index row j → ¬ IsEmptyOver ps es t)
-      → AreTrianglesWith ps es (IsBefore a row i j) ts → AreTrianglesWith ps es (IsBefore a row i (j + 1)) ts
-  with_none_here a i j row ts none =
-      with_same (IsBefore a row i j) (IsBefore a row i (j + 1)) ts (still_before a i j row)
-      (λ s e. ⊎_elim (λ l. inl l)
-      (λ f. ⊎_elim
-      (λ l. inr (record { p = f.p; q = f.q; p_in = f.p_in; q_in = f.q_in; first = f.first; second = f.second; third = f.third; before = inl l }))
-      (λ r. let r1 = r.1 in
-      ⊎_elim
-      (λ l. inr (record { p = f.p; q = f.q; p_in = f.p_in; q_in = f.q_in; first = f.first; second = f.second; third = f.third; before = inr (r.0, l) }))
-      (λ l. let same : f.q ≡ j = omega arith in
-      absurd (none s f.first (f.second ∙ ap (slice_index row) r.0) (f.third ∙ ap (slice_index row) same) e))
-      (cases_lt f.q j))
-      f.before))
-
-  -- one triangle more than are listed
-  pub more_than_listed : (a i j : ℕ) (row : List ℕ) (ts : List Tri) (t : Tri) → IsRow es a row → i < length row → j < length row → t.a ≡ a → t.b ≡ slice_index row i → t.c ≡ slice_index row j → IsEmptyOver ps es t
-      → AreTrianglesWith ps es (IsBefore a row i j) ts → AreMoreThan (IsEmptyOver ps es) (length ts)
-  more_than_listed a i j row ts t r i_in j_in ea eb ec e h =
-      let all = with_here a i j row ts t r i_in j_in ea eb ec e h in record {
-        some = ts ++ t ∷ [];
-        distinct = λ k l d m n same. apart _ _ (all.ascending k l d m n) same;
-        each = all.each;
-        more = omega (arith, length-append ts (t ∷ []));
-      }
+  -- what is listed tells how many there are
+  pub more_than_listed : (P : Tri → Type 0) (limit : ℕ) (ts : List Tri) → limit < length ts → AreTrianglesWith ps es P ts → AreMoreThan (IsEmptyOver ps es) limit
+  more_than_listed P limit ts more h = record {
+    some = ts;
+    distinct = λ k l d m n same. apart _ _ (h.ascending k l d m n) same;
+    each = h.each;
+    more = more;
+  }
     where
       apart : (s u : Tri) → TriPrecedes s u → s ≢ u
       apart s u h same =

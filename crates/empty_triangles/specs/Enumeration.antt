@@ -1,11 +1,13 @@
 -- The empty triangles over a list of edges, as far as they are enumerated.
-use Rattle.std.specs.Prelude.{◌≡◌, ◌⊎◌, ℕ, ◌<◌, ◌≤◌, ◌==◌, nat_lt, Bool, ◌&&◌, ◌||◌, List, length, slice_index, slice_index_or, All, AllPairs, Contains, pos, ◌<ℤ◌}
+use Rattle.std.specs.Prelude.{◌≡◌, ◌⊎◌, ℕ, ◌+◌, ◌<◌, ◌≤◌, ◌==◌, nat_lt, Bool, ◌&&◌, ◌||◌, List, Option, Some, None, length, slice_index, slice_index_or, All, AllPairs, Contains, pos, ◌<ℤ◌}
+use Rattle.std.specs.declared.alloc.Global.{Global}
+use Rattle.std.specs.declared.vec.Vec.{Vec}
 use Rattle.exact_predicates.specs.declared.edge.Edge.{Edge}
 use Rattle.exact_predicates.specs.declared.point.Point.{Point}
 use Rattle.exact_predicates.specs.declared.tri.Tri.{Tri}
 use Rattle.exact_predicates.specs.Plane.{orient, IsInClosedTriangle}
 use Rattle.exact_predicates.specs.PointSet.{point_at}
-use Rattle.exact_predicates.specs.Candidates.{TriPrecedes, HasEdge, IsEmptyOver}
+use Rattle.exact_predicates.specs.Candidates.{EdgePrecedes, TriPrecedes, HasEdge, IsEmptyOver}
 
 -- e comes before the edge with the ends a and b
 abbrev pub IsEdgeBefore : ℕ → ℕ → Edge → Type 0
@@ -27,21 +29,6 @@ pub record IsRow (es : List Edge) (a : ℕ) (row : List ℕ) : Type 0 where
   pub each : All (λ b. (a < b) × HasEdge es a b) row
   pub all : (b : ℕ) → a < b → HasEdge es a b → Contains row b
 
--- t has the corner a and two others from a row, whose places come before i and j
-pub record IsFromRow (a : ℕ) (row : List ℕ) (i j : ℕ) (t : Tri) : Type 0 where
-  pub p : ℕ
-  pub q : ℕ
-  pub p_in : p < length row
-  pub q_in : q < length row
-  pub first : t.a ≡ a
-  pub second : t.b ≡ slice_index row p
-  pub third : t.c ≡ slice_index row q
-  pub before : (p < i) ⊎ ((p ≡ i) × (q < j))
-
--- t has a first corner below a, or comes from the row of a before the places i and j
-abbrev pub IsBefore : ℕ → List ℕ → ℕ → ℕ → Tri → Type 0
-IsBefore a row i j t = (t.a < a) ⊎ IsFromRow a row i j t
-
 -- those empty triangles over the edges es that are P, ascending
 pub record AreTrianglesWith (ps : List Point) (es : List Edge) (P : Tri → Type 0) (ts : List Tri) : Type 0 where
   pub ascending : AllPairs TriPrecedes ts
@@ -56,7 +43,35 @@ pub record IsBare (ps : List Point) (a b c : ℕ) : Type 0 where
   pub turns_left : pos 0 <ℤ orient (point_at ps a) (point_at ps b) (point_at ps c)
   pub bare : (r : ℕ) → r < length ps → IsInClosedTriangle (point_at ps a) (point_at ps b) (point_at ps c) (point_at ps r) → (r ≡ a) ⊎ ((r ≡ b) ⊎ (r ≡ c))
 
--- the third corners of the empty triangles with the corners a and b, in this turn
-pub record AreThirds (ps : List Point) (a b : ℕ) (cs : List ℕ) : Type 0 where
-  pub each : All (IsBare ps a b) cs
-  pub all : (c : ℕ) → IsBare ps a b c → Contains cs c
+-- abc is an empty triangle, and its sides to c are among the edges es
+pub record IsThird (ps : List Point) (es : List Edge) (a b c : ℕ) : Type 0 where
+  pub bare : IsBare ps a b c
+  pub ac : HasEdge es a c
+  pub bc : HasEdge es b c
+
+-- the third corners of such triangles with the corners a and b, in this turn
+pub record AreThirds (ps : List Point) (es : List Edge) (a b : ℕ) (cs : List ℕ) : Type 0 where
+  pub each : All (IsThird ps es a b) cs
+  pub all : (c : ℕ) → IsThird ps es a b c → Contains cs c
+
+-- seen from b, c is turned to the left of the point m; where there is none, it lies to the left of the line from a to b
+abbrev pub IsAhead : List Point → ℕ → ℕ → Option ℕ → ℕ → Type 0
+IsAhead ps a b None c = pos 0 <ℤ orient (point_at ps a) (point_at ps b) (point_at ps c)
+IsAhead ps a b (Some m) c = pos 0 <ℤ orient (point_at ps b) (point_at ps m) (point_at ps c)
+
+-- the triangles with the corners a and b and each of these third corners
+pub record IsFan (a b : ℕ) (cs : List ℕ) (ts : List Tri) : Type 0 where
+  pub count : length ts ≡ length cs
+  pub each : (k : ℕ) (d : Tri) → k < length ts → let t = slice_index_or ts k d in (t.a ≡ a) × (t.b ≡ b) × (t.c ≡ slice_index cs k)
+
+-- the triangles with each first corner from a to before n, in a list each
+pub record AreRows (ps : List Point) (es : List Edge) (a n : ℕ) (rows : List (Vec Tri Global)) : Type 0 where
+  pub count : length rows + a ≡ n
+  pub each : (k : ℕ) (d : Vec Tri Global) → k < length rows → AreTrianglesWith ps es (λ t. t.a ≡ a + k) (slice_index_or rows k d).items
+
+-- what is asked where the triangles with the first corner a are listed
+pub record IsReady (ps held : List Point) (es : List Edge) (a : ℕ) : Type 0 where
+  pub grid : held ≡ ps
+  pub ascending : AllPairs EdgePrecedes es
+  pub within : All (λ e. e.b < length ps) es
+  pub a_in : a < length ps

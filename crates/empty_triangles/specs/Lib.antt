@@ -1,1 +1,3 @@
+pub mod Corners
 pub mod Enumeration
+pub mod Rays

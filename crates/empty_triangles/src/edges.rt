@@ -29,8 +29,8 @@ pub(crate) fn has_edge(edges: &[Edge], u: u32, v: u32) -> bool
     k < edges.len() && edges[k] == edge
 }
 
-// The place of the first edge that does not come before the one with the ends `a` and `b`.
-fn place_of(edges: &[Edge], a: u32, b: u32) -> usize
+/// The place of the first edge that does not come before the one with the ends `a` and `b`.
+pub(crate) fn place_of(edges: &[Edge], a: u32, b: u32) -> usize
     requires { AllPairs EdgePrecedes edges.now }
     ensures { IsPlaceOf edges.now a b result }
 {

@@ -1,92 +1,108 @@
 // The empty triangles with two given corners.
-ghost use Rattle.std.specs.Prelude.{◌≡◌, ◌-◌, ◌<◌, ◌≤◌, ◌↔◌, ℕ, pos, ◌<ℤ◌, IsTrue, All, Contains, length, slice_index, IfOk};
-ghost use Rattle.exact_predicates.specs.Plane.{orient};
-ghost use Rattle.exact_predicates.specs.PointSet.{IsPointSet, point_at};
-ghost use Rattle.point_grid.specs.Directions.{AreByDirection};
+ghost use Rattle.std.specs.Prelude.{◌≡◌, ◌≢◌, ◌<◌, AllPairs, Contains, MatchOption, length, slice_index, IfOk};
+ghost use Rattle.exact_predicates.specs.Candidates.{EdgePrecedes};
 ghost use Rattle.empty_triangles.specs.Enumeration.{AreThirds};
+ghost use Rattle.empty_triangles.specs.Corners.{IsCorner};
+ghost use Rattle.empty_triangles.specs.Rays.{AreTurning, AreLists};
 
-use exact_predicates::Points;
+use crate::corner::Corner;
+use exact_predicates::{Edge, Points};
 use mwt_base::NoMemory;
-use point_grid::{is_first_on_ray, is_left};
+use point_grid::is_left;
 use std::alloc::Global;
 
-/// The third corners of the empty triangles that turn to the left, whose first two corners are `a`
-/// and `b`, ascending. `order` has the points after `a` as `a` sees them.
+/// The third corners of the empty triangles over the edges whose first two corners are a given one and
+/// its neighbour `b`, in this turn, ascending.
 pub(crate) fn thirds(
     alloc: Global,
     points: &Points,
-    a: u32,
-    order: &[u32],
+    edges: &[Edge],
+    corner: &Corner,
     b: u32,
 ) -> Result<Vec<u32>, NoMemory>
-    requires points { IsPointSet points.now.points }
-    requires a_in { a < length points.now.points }
-    requires order { AreByDirection points.now.points a order.now }
-    requires a_b { a < b }
+    requires ascending { AllPairs EdgePrecedes edges.now }
+    requires a_in { corner.now.a < length points.now.points }
+    requires corner { IsCorner points.now.points edges.now corner.now.a corner.now.row.items corner.now.heads.items }
+    requires lists { AreLists points.now.points corner.now.heads.items (length corner.now.heads.items) corner.now.seen.items }
+    requires neighbor { Contains corner.now.row.items b }
     requires b_in { b < length points.now.points }
-    ensures are { IfOk result (λ cs. AreThirds points.now.points a b cs.items) }
-    ensures ascending { IfOk result (λ cs. (j k : ℕ) → j ≤ k → k < length cs.items →
-        slice_index cs.items j ≤ slice_index cs.items k) }
+    ensures are { IfOk result (λ cs. AreThirds points.now.points edges.now corner.now.a b cs.items) }
+    ensures ascending { IfOk result (λ cs. AllPairs ◌<◌ cs.items) }
 {
-    thirds_at(alloc, points, a, order, place_in(order, b))
+    // The proof takes from `len` that these are the points of a problem.
+    prove!(corner.a < points.len());
+    match place_in(points, corner.a, &corner.heads, b) {
+        Some(j) => {
+            let mut thirds = thirds_at(alloc, points, edges, corner, j)?;
+            thirds.sort_unstable();
+            Ok(thirds)
+        }
+        None => Ok(Vec::new(alloc)),
+    }
 }
 
-// The place of a number in a list that has it.
-fn place_in(numbers: &[u32], number: u32) -> usize
-    requires { Contains numbers.now number }
-    ensures within { result < length numbers.now }
-    ensures is { slice_index numbers.now result ≡ number }
+// The place of the point `b` among points that go round `a` to the right, or none.
+fn place_in(points: &Points, a: u32, heads: &[u32], b: u32) -> Option<usize>
+    requires a_in { a < length points.now.points }
+    requires heads { AreTurning points.now.points a heads.now }
+    requires b_in { b < length points.now.points }
+    ensures { MatchOption result (¬ Contains heads.now b) (λ i. (i < length heads.now) × (slice_index heads.now i ≡ b)) }
 {
-    for (i, other) in numbers.iter().enumerate() {
-        if *other == number {
-            return i;
+    let i = first_not_left(points, a, heads, b);
+    if i < heads.len() && heads[i] == b {
+        Some(i)
+    } else {
+        None
+    }
+}
+
+// The first of them that does not lie to the left of the line from `a` to `b`, or their end.
+fn first_not_left(points: &Points, a: u32, heads: &[u32], b: u32) -> usize
+    requires a_in { a < length points.now.points }
+    requires heads { AreTurning points.now.points a heads.now }
+    requires b_in { b < length points.now.points }
+    ensures { Contains heads.now b → (result < length heads.now) × (slice_index heads.now result ≡ b) }
+{
+    let mut from = 0;
+    let mut to = heads.len();
+    while from < to {
+        let middle = from + (to - from) / 2;
+        if is_left(points, a, b, heads[middle]) {
+            from = middle + 1;
+        } else {
+            to = middle;
         }
     }
-    unreachable!()
+    from
 }
 
-// The same for the second corner at the place `i` of the order.
-//
-// The later directions are gone through once. A point in the triangle of `a`, the second corner and
-// a later point comes between the two in direction, and is turned to the left of the later point,
-// seen from the second corner: so it suffices to know the point that is turned farthest.
+// The same for the second corner at the place `j` of the heads, as it sees them.
 fn thirds_at(
     alloc: Global,
     points: &Points,
-    a: u32,
-    order: &[u32],
-    i: usize,
+    edges: &[Edge],
+    corner: &Corner,
+    j: usize,
 ) -> Result<Vec<u32>, NoMemory>
-    requires points { IsPointSet points.now.points }
-    requires a_in { a < length points.now.points }
-    requires order { AreByDirection points.now.points a order.now }
-    requires i_in { i < length order.now }
-    ensures are { IfOk result (λ cs. AreThirds points.now.points a (slice_index order.now i) cs.items) }
-    ensures ascending { IfOk result (λ cs. (j k : ℕ) → j ≤ k → k < length cs.items →
-        slice_index cs.items j ≤ slice_index cs.items k) }
+    requires ascending { AllPairs EdgePrecedes edges.now }
+    requires a_in { corner.now.a < length points.now.points }
+    requires corner { IsCorner points.now.points edges.now corner.now.a corner.now.row.items corner.now.heads.items }
+    requires lists { AreLists points.now.points corner.now.heads.items (length corner.now.heads.items) corner.now.seen.items }
+    requires j_in { j < length corner.now.heads.items }
+    requires neighbor { Contains corner.now.row.items (slice_index corner.now.heads.items j) }
+    ensures are { IfOk result (λ cs. AreThirds points.now.points edges.now corner.now.a (slice_index corner.now.heads.items j) cs.items) }
+    ensures distinct { IfOk result (λ cs. AllPairs (λ c d. c ≢ d) cs.items) }
 {
+    // The proof takes from `len` that these are the points of a problem.
+    prove!(corner.a < points.len());
+    let b = corner.heads[j];
+    let places: &[usize] = &corner.seen[j];
     let mut thirds = Vec::new(alloc);
-    if is_first_on_ray(points, a, order, i) {
-        for j in i + 1..order.len() {
-            if is_third(points, a, order[i], &thirds, order[j]) {
-                thirds.push(order[j])?;
-            }
+    for t in 0..places.len() {
+        let c = corner.heads[places[t]];
+        if corner.joins(edges, b, c) {
+            thirds.push(c)?;
         }
     }
-    thirds.sort_unstable();
     Ok(thirds)
-}
-
-// Whether `c` lies to the left of the line from `a` to `b`, and, seen from `b`, to the left of the
-// last of the third corners.
-fn is_third(points: &Points, a: u32, b: u32, thirds: &[u32], c: u32) -> bool
-    requires a_in { a < length points.now.points }
-    requires b_in { b < length points.now.points }
-    requires c_in { c < length points.now.points }
-    requires thirds_in { All (λ t. t < length points.now.points) thirds.now }
-    ensures { let at = point_at points.now.points in IsTrue result ↔ ((pos 0 <ℤ orient (at a) (at b) (at c))
-        × (0 < length thirds.now → pos 0 <ℤ orient (at b) (at (slice_index thirds.now (length thirds.now - 1))) (at c))) }
-{
-    is_left(points, a, b, c)
-        && (thirds.is_empty() || is_left(points, b, thirds[thirds.len() - 1], c))
 }

@@ -5,3 +5,4 @@ pub mod Parting
 pub mod Places
 pub mod Rays
 pub mod Sights
+pub mod Windows

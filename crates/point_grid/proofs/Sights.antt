@@ -1,7 +1,8 @@
 -- Sights of later points, and their order by direction.
-use Rattle.std.proofs.Common.{◌≡◌, ◌⊎◌, ℕ, ◌+◌, ◌-◌, ◌*◌, ◌^◌, ◌<◌, ◌≤◌, Bool, true, false, Ordering, ℤ, pos, ◌*ℤ◌, ◌<ℤ◌, to_z, of_z, unsigned_abs, nat_cmp, int_cmp, List, [], ◌∷◌, ◌++◌, length, get_or, slice_index_or, map, eqb, All, AllPairs, Contains, arith, subst, inl, inr, ⊎_elim, refl, sym, ap, ◌∙◌}
+use Rattle.std.proofs.Common.{◌≡◌, ◌≢◌, ◌⊎◌, ℕ, ◌+◌, ◌*◌, ◌^◌, ◌<◌, ◌≤◌, Bool, true, false, Ordering, ℤ, pos, ◌*ℤ◌, ◌<ℤ◌, to_z, of_z, unsigned_abs, nat_cmp, int_cmp, List, [], ◌∷◌, ◌++◌, length, get_or, slice_index, slice_index_or, map, eqb, All, AllPairs, arith, subst, inl, inr, ⊎_elim, refl, sym, ap, ◌∙◌}
 use Rattle.std.proofs.lemmas.Int.{ints, by_lt_z, unsigned_abs-mul}
 use Rattle.std.proofs.lemmas.Bool.{cases_Bool, cases_lt}
+use Rattle.std.proofs.lemmas.Grind.{same_number_lists}
 use Rattle.std.proofs.lemmas.Nat.{mul-le}
 use Rattle.std.proofs.lemmas.Cmp.{by_ranked, int_ranked, ranked}
 use Rattle.std.specs.declared.cmp.Ordering.TheVariants.{Less, Equal, Greater}
@@ -10,9 +11,9 @@ use Rattle.std.specs.Cmp.{IsStrictWeakOrder}
 use Rattle.std.specs.List.Sorted.{IsPermutation, IsSortedBy}
 use Rattle.std.proofs.lemmas.Cmp.{nat_eq_equiv}
 use Rattle.std.proofs.lemmas.Bool.{ne_eqb, eqb-false}
-use Rattle.std.proofs.lemmas.List.{get_or-map, get_or_default, get_or_append_left, get_or_push, length-map}
+use Rattle.std.proofs.lemmas.List.{get_or-map, get_or_append_left, get_or_push, length-map}
 use Rattle.std.proofs.lemmas.List.Elements.{All-map, All-weaker}
-use Rattle.std.proofs.lemmas.List.Sorted.{All-permutation, Contains-permutation, sorted_far}
+use Rattle.std.proofs.lemmas.List.Sorted.{All-permutation, IsPermutation-map, sorted_far}
 use Rattle.exact_predicates.specs.declared.point.Point.{Point}
 use Rattle.exact_predicates.specs.Plane.{orient}
 use Rattle.exact_predicates.specs.PointSet.{point_at}
@@ -124,68 +125,68 @@ abbrev IsLaterSight : List Point → ℕ → Sight → Type 0
 IsLaterSight ps a s = (a < s.number) × (s.number < length ps) × IsSight ps a s.number s
 
 -- the sights in the order of directions
-pub AreByDirection-sorted : (ps : List Point) (a : ℕ) (old new : List Sight) (order : List ℕ) → AreSights ps a old → IsPermutation old new → IsSortedBy is_before new → order ≡ map (λ s. s.number) new → AreByDirection ps a order
-AreByDirection-sorted ps a old new order h moved sorted is =
-    subst (AreByDirection ps a) (sym is)
-    (record {
-      each = All-map (λ b. (a < b) × (b < length ps)) (λ (s : Sight). s.number) new (All-weaker (IsLaterSight ps a) (λ s. (a < s.number) × (s.number < length ps)) (λ s k. (k.0, k.1)) new all_new);
-      all = found;
-      sorted = λ i j d l j_in. follows i j d l (omega (arith, length-map new (λ (s : Sight). s.number)));
-    })
-  where
-    all_old : All (IsLaterSight ps a) old
-    all_old = λ k d l.
-        let s = h.each k d l in
-        let n = s.number in
-        let c = h.count in
-        (omega arith, omega arith, subst (λ (b : ℕ). IsSight ps a b (get_or old k d)) (sym n) s)
+module _ (ps : List Point) (a : ℕ) (numbers : List ℕ) (old new : List Sight) (order : List ℕ) (later : All (λ b. (a < b) × (b < length ps)) numbers) (distinct : AllPairs (λ b c. b ≢ c) numbers)
+    (h : AreSights ps a numbers old) (moved : IsPermutation old new) (is : order ≡ map (λ s. s.number) new) where
+  some : Sight
+  some = record { width = pos 1; height = pos 0; number = 0; narrow = omega arith; low = omega arith; rightwards = omega (arith, ints); or_up = λ e. absurd (omega (arith, ints)) }
 
-    all_new : All (IsLaterSight ps a) new
-    all_new = All-permutation (IsLaterSight ps a) old new moved all_old
+  numbers-old : map (λ (s : Sight). s.number) old ≡ numbers
+  numbers-old =
+      same_number_lists _ _ (length-map old (λ (s : Sight). s.number) ∙ h.count)
+      (λ k l. let k_in : k < length old = omega (arith, length-map old (λ (s : Sight). s.number)) in get_or-map (λ (x : Sight). x.number) old k some 0 k_in ∙ (h.each k some k_in).number)
 
-    apart_old : AllPairs (λ (s t : Sight). eqb s.number t.number ≡ false) old
-    apart_old = λ i j d l j_in.
-        let m = (h.each i d (omega arith)).number in
-        let n = (h.each j d j_in).number in
-        ne_eqb _ _ (λ e. omega arith)
+  pub IsPermutation-sorted : IsPermutation numbers order
+  IsPermutation-sorted = subst (λ (ns : List ℕ). IsPermutation ns order) numbers-old (rw is (IsPermutation-map (λ (s : Sight). s.number) old new moved))
 
-    apart_new : AllPairs (λ (s t : Sight). eqb s.number t.number ≡ false) new
-    apart_new = AllPairs-IsPermutation (λ (s t : Sight). eqb s.number t.number) (λ s t. nat_eq_equiv.symm s.number t.number) old new moved apart_old
+  all_old : All (IsLaterSight ps a) old
+  all_old = λ k d l.
+      let s = h.each k d l in
+      let n = s.number in
+      let c = h.count in
+      let in_range = later k 0 (omega arith) in
+      (omega arith, omega arith, subst (λ (b : ℕ). IsSight ps a b (get_or old k d)) (sym n) s)
 
-    some : Sight
-    some = record { width = pos 1; height = pos 0; number = 0; narrow = omega arith; low = omega arith; rightwards = omega (arith, ints); or_up = λ e. absurd (omega (arith, ints)) }
+  all_new : All (IsLaterSight ps a) new
+  all_new = All-permutation (IsLaterSight ps a) old new moved all_old
 
-    follows : (i j d : ℕ) → i < j → j < length new → Follows ps a (get_or (map (λ (s : Sight). s.number) new) i d) (get_or (map (λ (s : Sight). s.number) new) j d)
-    follows i j d l j_in =
-        let s = get_or new i some in
-        let t = get_or new j some in
-        let hs = all_new i some (omega arith) in
-        let ht = all_new j some j_in in
-        let turn = turned-sights ps a s.number t.number s t hs.2 ht.2 in
-        let differ = eqb-false _ _ (apart_new i j some l j_in) in
-        rw (get_or-map (λ (x : Sight). x.number) new i some d (omega arith), get_or-map (λ (x : Sight). x.number) new j some d j_in)
-        (⊎_elim
-        (λ k. inl (omega (arith, ints, turn)))
-        (λ k. let k0 = k.0 in let k1 = k.1 in inr (omega (arith, ints, turn), omega arith))
-        (not_before s t (sorted_far is_before is_before-order new sorted i j some (omega arith) j_in)))
+  apart_old : AllPairs (λ (s t : Sight). eqb s.number t.number ≡ false) old
+  apart_old = λ i j d l j_in.
+      let m = (h.each i d (omega arith)).number in
+      let n = (h.each j d j_in).number in
+      let c = h.count in
+      ne_eqb _ _ (λ e. distinct i j 0 l (omega arith) (sym m ∙ (e ∙ n)))
 
-    found : (b : ℕ) → a < b → b < length ps → Contains (map (λ (s : Sight). s.number) new) b
-    found b l b_in =
-        let c = h.count in
-        let k_in : b - (a + 1) < length old = omega arith in
-        let s = get_or old (b - (a + 1)) some in
-        let first = (h.each (b - (a + 1)) some k_in).number in
-        let n : s.number ≡ b = omega arith in
-        let (j, j_in, at_j) = Contains-permutation old new s moved (b - (a + 1), k_in, get_or_default old (b - (a + 1)) s some k_in) in
-        (j, omega (arith, length-map new (λ (x : Sight). x.number)), get_or-map (λ (x : Sight). x.number) new j s b j_in ∙ (ap (λ (x : Sight). x.number) at_j ∙ n))
+  apart_new : AllPairs (λ (s t : Sight). eqb s.number t.number ≡ false) new
+  apart_new = AllPairs-IsPermutation (λ (s t : Sight). eqb s.number t.number) (λ s t. nat_eq_equiv.symm s.number t.number) old new moved apart_old
+
+  follows : IsSortedBy is_before new → (i j d : ℕ) → i < j → j < length new → Follows ps a (get_or (map (λ (s : Sight). s.number) new) i d) (get_or (map (λ (s : Sight). s.number) new) j d)
+  follows sorted i j d l j_in =
+      let s = get_or new i some in
+      let t = get_or new j some in
+      let hs = all_new i some (omega arith) in
+      let ht = all_new j some j_in in
+      let turn = turned-sights ps a s.number t.number s t hs.2 ht.2 in
+      let differ = eqb-false _ _ (apart_new i j some l j_in) in
+      rw (get_or-map (λ (x : Sight). x.number) new i some d (omega arith), get_or-map (λ (x : Sight). x.number) new j some d j_in)
+      (⊎_elim
+      (λ k. inl (omega (arith, ints, turn)))
+      (λ k. let k0 = k.0 in let k1 = k.1 in inr (omega (arith, ints, turn), omega arith))
+      (not_before s t (sorted_far is_before is_before-order new sorted i j some (omega arith) j_in)))
+
+  pub AreByDirection-sorted : IsSortedBy is_before new → AreByDirection ps a order
+  AreByDirection-sorted sorted =
+      subst (AreByDirection ps a) (sym is)
+      (record {
+        each = All-map (λ b. (a < b) × (b < length ps)) (λ (s : Sight). s.number) new (All-weaker (IsLaterSight ps a) (λ s. (a < s.number) × (s.number < length ps)) (λ s k. (k.0, k.1)) new all_new);
+        sorted = λ i j d l j_in. follows sorted i j d l (omega (arith, length-map new (λ (s : Sight). s.number)));
+      })
 
 -- one sight more
-pub IsSight-push : (ps : List Point) (a b : ℕ) (old : List Sight) (s : Sight) → length old + (a + 1) ≡ b → ((k : ℕ) (d : Sight) → k < length old → IsSight ps a (a + 1 + k) (slice_index_or old k d)) → IsSight ps a b s
-    → (k : ℕ) (d : Sight) → k < length old + 1 → IsSight ps a (a + 1 + k) (slice_index_or (old ++ s ∷ []) k d)
-IsSight-push ps a b old s count each h k d l =
+pub IsSight-push : (ps : List Point) (a : ℕ) (numbers : List ℕ) (old : List Sight) (s : Sight) → ((k : ℕ) (d : Sight) → k < length old → IsSight ps a (slice_index numbers k) (slice_index_or old k d)) → IsSight ps a (slice_index numbers (length old)) s
+    → (k : ℕ) (d : Sight) → k < length old + 1 → IsSight ps a (slice_index numbers k) (slice_index_or (old ++ s ∷ []) k d)
+IsSight-push ps a numbers old s each h k d l =
     ⊎_elim
-    (λ m. subst (IsSight ps a (a + 1 + k)) (sym (get_or_append_left old (s ∷ []) d k m)) (each k d m))
+    (λ m. subst (IsSight ps a (slice_index numbers k)) (sym (get_or_append_left old (s ∷ []) d k m)) (each k d m))
     (λ m. let e : length old ≡ k = omega arith in
-    let n : b ≡ a + 1 + k = omega arith in
-    subst (IsSight ps a (a + 1 + k)) (sym (get_or_push old s d k e)) (subst (λ (x : ℕ). IsSight ps a x s) n h))
+    subst (IsSight ps a (slice_index numbers k)) (sym (get_or_push old s d k e)) (subst (λ (x : ℕ). IsSight ps a (slice_index numbers x) s) e h))
     (cases_lt k (length old))

@@ -1,5 +1,5 @@
 -- The points after a given one, as they are seen from it.
-use Rattle.std.specs.Prelude.{◌≡◌, ◌⊎◌, ℕ, ◌+◌, ◌<◌, List, length, slice_index_or, All, AllPairs, Contains, pos, ◌-ℤ◌, ◌*ℤ◌, ◌<ℤ◌}
+use Rattle.std.specs.Prelude.{◌≡◌, ◌⊎◌, ℕ, ◌<◌, List, length, slice_index, slice_index_or, All, AllPairs, pos, ◌-ℤ◌, ◌*ℤ◌, ◌<ℤ◌}
 use Rattle.std.specs.declared.cmp.Ordering.{Ordering}
 use Rattle.std.specs.Ordering.{int_cmp, nat_cmp, ordering_then}
 use Rattle.exact_predicates.specs.declared.point.Point.{Point}
@@ -16,10 +16,13 @@ abbrev pub Follows : List Point → ℕ → ℕ → ℕ → Type 0
 Follows ps a b c =
     let turn = orient (point_at ps a) (point_at ps b) (point_at ps c) in (pos 0 <ℤ turn) ⊎ ((turn ≡ pos 0) × (b < c))
 
--- the numbers of the points after a, in the order in which a sees them
+-- none of these points is between the points a and b
+abbrev pub SeesPast : List Point → ℕ → List ℕ → ℕ → Type 0
+SeesPast ps a others b = All (λ r. ¬ IsBetween (point_at ps a) (point_at ps b) (point_at ps r)) others
+
+-- numbers of points after a, in the order in which a sees them
 pub record AreByDirection (ps : List Point) (a : ℕ) (order : List ℕ) : Type 0 where
   pub each : All (λ b. (a < b) × (b < length ps)) order
-  pub all : (b : ℕ) → a < b → b < length ps → Contains order b
   pub sorted : AllPairs (Follows ps a) order
 
 -- how two sights compare: first by direction, going round to the left, and then by number
@@ -32,7 +35,7 @@ pub record IsSight (ps : List Point) (a b : ℕ) (s : Sight) : Type 0 where
   pub width : s.width ≡ (point_at ps b).x -ℤ (point_at ps a).x
   pub height : s.height ≡ (point_at ps b).y -ℤ (point_at ps a).y
 
--- the sights of the points after a, in their order
-pub record AreSights (ps : List Point) (a : ℕ) (sights : List Sight) : Type 0 where
-  pub count : length sights + (a + 1) ≡ length ps
-  pub each : (k : ℕ) (d : Sight) → k < length sights → IsSight ps a (a + 1 + k) (slice_index_or sights k d)
+-- the sights of these points from a
+pub record AreSights (ps : List Point) (a : ℕ) (numbers : List ℕ) (sights : List Sight) : Type 0 where
+  pub count : length sights ≡ length numbers
+  pub each : (k : ℕ) (d : Sight) → k < length sights → IsSight ps a (slice_index numbers k) (slice_index_or sights k d)

@@ -6,3 +6,4 @@ pub mod Frames
 pub mod Numbered
 pub mod Tree
 pub mod Views
+pub mod Windows

@@ -1,10 +1,12 @@
 // The points of a problem, ready for queries.
-ghost use Rattle.std.specs.Prelude.{◌≡◌, ◌≢◌, ◌<◌, ◌<ℤ◌, pos, length, IfOk};
+ghost use Rattle.std.specs.Prelude.{◌≡◌, ◌≢◌, ◌<◌, ◌≤◌, ◌<ℤ◌, pos, length, IfOk};
 ghost use Rattle.exact_predicates.specs.Plane.{orient, IsBetween, IsInClosedTriangle, IsInLeftDiamond};
 ghost use Rattle.exact_predicates.specs.PointSet.{point_at};
 ghost use Rattle.exact_predicates.specs.Triangulation.{IsCorner};
 ghost use Rattle.point_grid.specs.First.{IsFirst};
+ghost use Rattle.point_grid.specs.Windows.{AreAllIn};
 
+use crate::window::Window;
 use exact_predicates::{Point, Points, Tri, in_closed_triangle, in_left_diamond, strictly_between};
 use mwt_base::NoMemory;
 use std::alloc::Global;
@@ -93,5 +95,20 @@ impl Grid {
             }
         }
         None
+    }
+
+    /// The numbers of the points in a window, each once, in any order.
+    pub fn in_window(&self, alloc: Global, points: &Points, window: Window) -> Result<Vec<u32>, NoMemory>
+        requires made { self.now ≡ points.now.points }
+        requires window_in { window.to ≤ length points.now.points }
+        ensures { IfOk result (λ numbers. AreAllIn points.now.points window numbers.items) }
+    {
+        let mut numbers = Vec::new(alloc);
+        for r in window.from..window.to {
+            if window.reaches(&self.points[r as usize]) {
+                numbers.push(r)?;
+            }
+        }
+        Ok(numbers)
     }
 }

@@ -1,33 +1,62 @@
-use Rattle.std.proofs.Common.{arith, refl}
-use Rattle.std.proofs.lemmas.List.Sorted.{IsNonDecreasingBy-from_sort}
-use Rattle.empty_triangles.proofs.Fans.{IsFan-push, IsFan-skip, AreThirds-fan, AreThirds-hidden, AreThirds-permutation, not_third}
+use Rattle.std.proofs.Common.{◌≡◌, ◌<◌, slice_index, length, refl, arith, sym, ◌∙◌}
+use Rattle.std.proofs.lemmas.List.{get_or_default}
+use Rattle.empty_triangles.proofs.Fans.{heads_apart}
+use Rattle.empty_triangles.proofs.Seen.{AreSeen-listed}
+use Rattle.empty_triangles.proofs.Thirds.{AreThirdsTo-push, AreThirdsTo-skip, AreThirds-all}
 use Rattle.empty_triangles.proofs.fan.thirds_at.Goals as goal
-use Rattle.empty_triangles.proofs.fan.thirds_at.Goals.{then-is_third+in_ok-push, else-is_third, then-is_first_on_ray+else-loop-j-test, else-is_first_on_ray}
+use Rattle.empty_triangles.proofs.fan.thirds_at.Goals.{then-joins+in_ok-push, else-joins}
 
-pub loop-j-preserved : goal.loop-j-preserved
-loop-j-preserved c =
-    elim c.if-is_third.branch [
-      | then-is_third+in_ok-push w ↦
-          let third = (rw c.deref.ensures.value at w.if-is_third.ensures).0 refl in
+pub index-c-requires : goal.index-c-requires
+index-c-requires c =
+    let p = rw (sym c.deref-places.ensures.value) at (AreSeen-listed _ _ _ c.args.j _ _ c.requires.lists c.requires.j_in c.index.ensures) in
+    let seen = (p.each c.loop-t.t 0 (omega arith)).before in
+    let j_in = c.requires.j_in in
+    omega arith
+
+pub joins-requires-clause-later : goal.joins-requires-clause-later
+joins-requires-clause-later c =
+    let heads = c.args.corner.now.heads.items in
+    let places = c.deref-places.result.now in
+    let p = rw (sym c.deref-places.ensures.value) at (AreSeen-listed _ _ _ c.args.j _ _ c.requires.lists c.requires.j_in c.index.ensures) in
+    let seen = (p.each c.loop-t.t 0 (omega arith)).before in
+    let i_in : slice_index places c.loop-t.t < length heads = omega (arith, seen, c.requires.j_in) in
+    let here : c.index-c.result.now ≡ slice_index heads (slice_index places c.loop-t.t) = c.index-c.ensures ∙ get_or_default heads (slice_index places c.loop-t.t) _ 0 i_in in
+    let n = c.requires.corner.around.each (slice_index places c.loop-t.t) 0 i_in in
+    omega (arith, n.0)
+
+pub joins-requires-clause-apart : goal.joins-requires-clause-apart
+joins-requires-clause-apart c = λ same.
+    let heads = c.args.corner.now.heads.items in
+    let places = c.deref-places.result.now in
+    let p = rw (sym c.deref-places.ensures.value) at (AreSeen-listed _ _ _ c.args.j _ _ c.requires.lists c.requires.j_in c.index.ensures) in
+    let seen = (p.each c.loop-t.t 0 (omega arith)).before in
+    let i_in : slice_index places c.loop-t.t < length heads = omega (arith, seen, c.requires.j_in) in
+    let here : c.index-c.result.now ≡ slice_index heads (slice_index places c.loop-t.t) = c.index-c.ensures ∙ get_or_default heads (slice_index places c.loop-t.t) _ 0 i_in in
+    let b : c.index-b.result.now ≡ slice_index heads c.args.j = c.index-b.ensures ∙ get_or_default heads c.args.j _ 0 c.requires.j_in in
+    heads_apart _ c.len.ensures.valid _ c.requires.a_in heads c.requires.corner.around (slice_index places c.loop-t.t) c.args.j seen c.requires.j_in (sym here ∙ (sym same ∙ b))
+
+pub loop-t-preserved : goal.loop-t-preserved
+loop-t-preserved c =
+    let heads = c.args.corner.now.heads.items in
+    let places = c.deref-places.result.now in
+    let p = rw (sym c.deref-places.ensures.value) at (AreSeen-listed _ _ _ c.args.j _ _ c.requires.lists c.requires.j_in c.index.ensures) in
+    let t_in : c.loop-t.t < length places = omega arith in
+    let seen = (p.each c.loop-t.t 0 t_in).before in
+    let i_in : slice_index places c.loop-t.t < length heads = omega (arith, seen, c.requires.j_in) in
+    let here : c.index-c.result.now ≡ slice_index heads (slice_index places c.loop-t.t) = c.index-c.ensures ∙ get_or_default heads (slice_index places c.loop-t.t) _ 0 i_in in
+    let b : c.index-b.result.now ≡ slice_index heads c.args.j = c.index-b.ensures ∙ get_or_default heads c.args.j _ 0 c.requires.j_in in
+    elim c.if-joins.branch [
+      | then-joins+in_ok-push w ↦
           rw (w.thirds-is, w.in_ok-push.ensures.items)
-          (IsFan-push _ _ _ c.requires.points c.requires.a_in c.requires.order c.args.i c.requires.i_in c.loop-j.j _ (omega arith) (omega arith)
-          (c.if-is_first_on_ray.ensures.0 refl) c.loop-j.invariant third.0 third.1)
-      | else-is_third w ↦
-          let third = rw c.deref.ensures.value at w.if-is_third.ensures in
+          (AreThirdsTo-push _ _ _ _ heads c.len.ensures.valid c.requires.a_in c.requires.corner c.args.j c.requires.j_in c.requires.neighbor places p c.loop-t.t _ _ here t_in
+          (rw b at (w.if-joins.ensures.0 refl)) c.loop-t.invariant)
+      | else-joins w ↦
           rw w.thirds-is
-          (IsFan-skip _ _ _ c.requires.points c.requires.a_in c.requires.order c.args.i c.requires.i_in c.loop-j.j _ (omega arith) (omega arith) c.loop-j.invariant
-          (not_third _ _ _ (λ t. let yes = third.1 t in cc)))
+          (AreThirdsTo-skip _ _ _ _ heads c.len.ensures.valid c.requires.a_in c.requires.corner c.args.j c.requires.j_in c.requires.neighbor places p c.loop-t.t _ _ here
+          (λ h. let joined = (rw b at w.if-joins.ensures).1 h in cc) c.loop-t.invariant)
     ]
 
 pub returns-clause-are : goal.returns-clause-are
 returns-clause-are c =
-    AreThirds-permutation _ _ _ _ _ c.sort_unstable.ensures.permutation
-    (elim c.if-is_first_on_ray.branch [
-      | then-is_first_on_ray+else-loop-j-test w ↦ rw w.thirds-is (AreThirds-fan _ _ _ c.requires.points c.requires.a_in c.requires.order c.args.i c.requires.i_in _ w.loop-j.j (omega arith) w.loop-j.invariant)
-      | else-is_first_on_ray w ↦
-          rw (w.thirds-is, c.new-thirds.ensures.items)
-          (AreThirds-hidden _ _ _ c.requires.points c.requires.a_in c.requires.order c.args.i c.requires.i_in (λ s. let seen = w.if-is_first_on_ray.ensures.1 s in cc))
-    ])
-
-pub returns-clause-ascending : goal.returns-clause-ascending
-returns-clause-ascending c = λ j k l m. IsNonDecreasingBy-from_sort (λ x. x) _ c.sort_unstable.ensures.sorted j k 0 l m
+    let p = rw (sym c.deref-places.ensures.value) at (AreSeen-listed _ _ _ c.args.j _ _ c.requires.lists c.requires.j_in c.index.ensures) in
+    AreThirds-all _ _ _ _ _ c.len.ensures.valid c.requires.a_in c.requires.corner c.args.j c.requires.j_in c.requires.neighbor c.deref-places.result.now p c.loop-t.t _ (omega arith) c.loop-t.invariant

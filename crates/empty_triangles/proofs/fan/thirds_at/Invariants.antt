@@ -1,5 +1,5 @@
-use Rattle.empty_triangles.proofs.Fans.{IsFan}
+use Rattle.empty_triangles.proofs.Thirds.{AreThirdsTo}
 use Rattle.empty_triangles.proofs.fan.thirds_at.Given as goal
 
-abbrev pub invariant-loop-j : goal.invariant-loop-j
-invariant-loop-j l = IsFan l.points.points l.a l.order l.i l.j l.thirds.items
+abbrev pub invariant-loop-t : goal.invariant-loop-t
+invariant-loop-t l = AreThirdsTo l.points.points l.edges l.corner.a l.corner.heads.items l.j l.places l.t l.thirds.items

@@ -1,0 +1,27 @@
+use Rattle.std.proofs.Common.{◌≡◌, slice_index, arith, ◌∙◌}
+use Rattle.std.proofs.lemmas.List.{get_or_default}
+use Rattle.empty_triangles.proofs.Lists.{HasEdge-within, with_next_fan, with_all_fans, AreTrianglesWith-fan}
+use Rattle.empty_triangles.proofs.row.triangles_from.Goals as goal
+
+pub thirds-requires-clause-b_in : goal.thirds-requires-clause-b_in
+thirds-requires-clause-b_in c =
+    let row = c.in_ok-corner.corner.row.items in
+    let b : c.index-b.result.now ≡ slice_index row c.loop-i.i = c.index-b.ensures ∙ get_or_default row c.loop-i.i _ 0 (omega arith) in
+    let n = c.in_ok-corner.ensures.is.neighbors.each c.loop-i.i 0 (omega arith) in
+    rw b (HasEdge-within _ _ _ _ c.requires.within n.0 n.1)
+
+pub loop-i-preserved : goal.loop-i-preserved
+loop-i-preserved c =
+    let row = c.in_ok-corner.corner.row.items in
+    let r = c.in_ok-corner.ensures.is.neighbors in
+    let b : c.index-b.result.now ≡ slice_index row c.loop-i.i = c.index-b.ensures ∙ get_or_default row c.loop-i.i _ 0 (omega arith) in
+    let n = r.each c.loop-i.i 0 (omega arith) in
+    rw (c.in_ok-extend_from_slice.ensures.items, c.deref-in-loop-i.ensures.value)
+    (with_next_fan _ _ c.args.a c.loop-i.i row _ _ r (omega arith) c.loop-i.invariant
+    (AreTrianglesWith-fan _ _ c.args.a (slice_index row c.loop-i.i) _ _ n.0 (HasEdge-within _ _ _ _ c.requires.within n.0 n.1) n.1
+    (rw (c.in_ok-corner.ensures.a, b) at c.in_ok-thirds.ensures.are)
+    c.in_ok-thirds.ensures.ascending
+    (rw (b, c.deref.ensures.value) at c.in_ok-fan.ensures)))
+
+pub returns : goal.returns
+returns c = with_all_fans _ _ c.args.a c.loop-i.i _ _ c.in_ok-corner.ensures.is.neighbors (omega arith) (omega arith) c.loop-i.invariant
