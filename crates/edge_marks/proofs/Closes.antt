@@ -9,8 +9,8 @@ use lib.ListN.{get_elem?}
 use Rattle.atomic_table.specs.Table.{State}
 use Rattle.lmt_network.specs.Flags.{live_numbers}
 use Rattle.lmt_network.specs.Numbers.{IsHullNumber, IsSupported, AreClosed, AreLive}
-use Rattle.lmt_network.proofs.Laws.{live-same}
-use Rattle.lmt_network.proofs.Picked.{all-from-members, flag_in, live-from_flag, flag-from_live}
+use Rattle.lmt_network.proofs.Laws.{live_same}
+use Rattle.lmt_network.proofs.Picked.{all-from-members, flag_in, live_from_flag, flag_from_live}
 use Rattle.edge_marks.specs.declared.view.Known.{Known}
 use Rattle.edge_marks.specs.declared.view.About.{About}
 use Rattle.edge_marks.specs.Words.{mark_of}
@@ -57,7 +57,7 @@ module _ (k : About) (s : State ℕ Known) (r : MarksHold k s) (flags : List Boo
   closed_stay es closed = all-from-members (Contains (live_numbers flags)) es
       (λ e has. let low = (All-contains (λ x. (x < length (net k).edges) × (IsHullNumber (net k) x ⊎ IsSupported (net k) es x)) es e closed has).0 in
       dite (ℕ_discrete (mark_of s.words e) 0)
-      (λ z. live-from_flag flags e (shows e low ∙ eq-eqb (mark_of s.words e) 0 z))
+      (λ z. live_from_flag flags e (shows e low ∙ eq-eqb (mark_of s.words e) 0 z))
       (λ z. absurd (r.safe e low (omega arith) es closed has)))
 
   -- an edge that was seen killed is not
@@ -65,12 +65,12 @@ module _ (k : About) (s : State ℕ Known) (r : MarksHold k s) (flags : List Boo
   seen_fall id d at e has = let t = (r.each id d at).seen_killed e has in let t₁ = t.1 in shows e t.0 ∙ ne_eqb (mark_of s.words e) 0 (λ z. omega arith)
 
   flag_unkilled : (e : ℕ) → Contains (live_numbers flags) e → Contains (unkilled (length (net k).edges) s.words) e
-  flag_unkilled e has = let on = flag-from_live flags e has in let low : e < length (net k).edges = subst (λ (n : ℕ). e < n) wide (flag_in flags e on) in
+  flag_unkilled e has = let on = flag_from_live flags e has in let low : e < length (net k).edges = subst (λ (n : ℕ). e < n) wide (flag_in flags e on) in
       contains_unkilled (length (net k).edges) s.words e low (dite (ℕ_discrete (mark_of s.words e) 0) (λ z. z) (λ z. absurd (false≢true (sym (shows e low ∙ ne_eqb (mark_of s.words e) 0 z) ∙ on))))
 
   unkilled_flag : (e : ℕ) → Contains (unkilled (length (net k).edges) s.words) e → Contains (live_numbers flags) e
-  unkilled_flag e has = let t = unkilled_contains (length (net k).edges) s.words e has in live-from_flag flags e (shows e t.0 ∙ eq-eqb (mark_of s.words e) 0 t.1)
+  unkilled_flag e has = let t = unkilled_contains (length (net k).edges) s.words e has in live_from_flag flags e (shows e t.0 ∙ eq-eqb (mark_of s.words e) 0 t.1)
 
   -- where the seat was settled the flags are the live edges
   pub settled_live : (id : ℕ) (d : Known) → get_elem? s.views id ≡ some d → d.settled ≡ true → AreLive (net k) (live_numbers flags)
-  settled_live id d at quiet = live-same (net k) (unkilled (length (net k).edges) s.words) (live_numbers flags) unkilled_flag flag_unkilled ((r.each id d at).quiet quiet)
+  settled_live id d at quiet = live_same (net k) (unkilled (length (net k).edges) s.words) (live_numbers flags) unkilled_flag flag_unkilled ((r.each id d at).quiet quiet)

@@ -6,7 +6,7 @@ use native.Mathlib.Decide.{ℕ_discrete}
 use Rattle.atomic_table.specs.Table.{State, step, keeps, Allows}
 use Rattle.lmt_network.specs.Network.{NetworkParts}
 use Rattle.lmt_network.specs.Numbers.{IsHullNumber, IsDead, IsBroken}
-use Rattle.lmt_network.proofs.Laws.{dead-if-broken}
+use Rattle.lmt_network.proofs.Laws.{dead_if_broken}
 use Rattle.lmt_network.proofs.Picked.{contains-here, contains-cases}
 use Rattle.edge_marks.specs.declared.view.Phase.{Phase}
 use Rattle.edge_marks.specs.declared.view.Phase.TheVariants.{Idle, Begun, Marked}
@@ -36,7 +36,7 @@ module _ (k : About) where
       let mark : Counts n ws ws' = λ f l. ap (λ (y : ℕ). bit_in y f) (same (f / 64) (λ z. omega arith)) in
       let others : (v : Known) → ViewHolds n ws v → ViewHolds n ws' v = λ v. view_words n ws ws' v (omega arith) (λ f l p. let m = mark f (omega arith) in omega arith) (λ b b_le is _. omega arith)
       (λ _. live_words n ws ws' (λ f l z. mark f (omega arith) ∙ z) (λ f l z. sym (mark f (omega arith)) ∙ z)) in
-      let base = others d h in let dead = dead-if-broken n d.seen e inner broken (λ f has. let t = h.seen_killed f has in r.safe f t.0 t.1) in let zero_busy : is_busy d ≡ 0 = ap busy idle in
+      let base = others d h in let dead = dead_if_broken n d.seen e inner broken (λ f has. let t = h.seen_killed f has in r.safe f t.0 t.1) in let zero_busy : is_busy d ≡ 0 = ap busy idle in
       let s' : State ℕ Known = record { words = ws'; homes = s.homes; views = set s.views id w } in
       let kept : MarksHold k s' = moved k s r id d w at ws' record {
         wide = length-set ws W (x + 1);

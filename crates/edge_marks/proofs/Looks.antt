@@ -4,7 +4,7 @@ use mathlib.Core.Option.{none}
 use Rattle.atomic_table.specs.Table.{step, keeps, Allows}
 use Rattle.lmt_network.specs.Network.{NetworkParts}
 use Rattle.lmt_network.specs.Numbers.{AreLive, IsDead}
-use Rattle.lmt_network.proofs.Laws.{live-once}
+use Rattle.lmt_network.proofs.Laws.{live_once}
 use Rattle.lmt_network.proofs.Picked.{contains-cases}
 use Rattle.edge_marks.specs.declared.view.Loaded.{Loaded}
 use Rattle.edge_marks.specs.declared.view.Phase.TheVariants.{Idle, Begun}
@@ -58,8 +58,8 @@ module _ (k : About) where
           seen = λ has. (h.seen_killed e has).1;
           tried = λ idle has. h.tried_killed e has (λ z. absurd (let g : Idle ≡ Begun e = sym idle ∙ z in cc));
           settled = λ quiet L live. let live' : AreLive n L = subst (λ (m : NetworkParts). AreLive m L) h.net_is live in (
-            (λ z. live-once n U L (h.quiet quiet) live' e (contains_unkilled (length n.edges) s.words e low z)),
-            λ z has. let t = unkilled_contains (length n.edges) s.words e (live-once n L U live' (h.quiet quiet) e has) in let t₁ = t.1 in omega arith,
+            (λ z. live_once n U L (h.quiet quiet) live' e (contains_unkilled (length n.edges) s.words e low z)),
+            λ z has. let t = unkilled_contains (length n.edges) s.words e (live_once n L U live' (h.quiet quiet) e has) in let t₁ = t.1 in omega arith,
           );
         },
       ) in (

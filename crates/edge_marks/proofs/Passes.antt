@@ -8,7 +8,7 @@ use native.Mathlib.Decide.{ℕ_discrete}
 use Rattle.atomic_table.specs.Table.{State, step, keeps, Allows}
 use Rattle.lmt_network.specs.Network.{NetworkParts}
 use Rattle.lmt_network.specs.Numbers.{IsHullNumber, IsSupported, AreLive}
-use Rattle.lmt_network.proofs.Laws.{hull-not-dead}
+use Rattle.lmt_network.proofs.Laws.{hull_not_dead}
 use Rattle.lmt_network.proofs.Picked.{all-from-members, contains-nil}
 use Rattle.edge_marks.specs.declared.view.Loaded.{Loaded}
 use Rattle.edge_marks.specs.declared.view.Pass.{Pass}
@@ -100,7 +100,7 @@ module _ (k : About) where
           } in inr g) more)
           (judged e t.0),
     ));
-    hull_edges = λ e low hull. dite (ℕ_discrete (mark_of ws e) 0) (λ z. contains_unkilled E ws e low z) (λ z. absurd (hull-not-dead n e low hull (r.safe e low (omega arith))));
+    hull_edges = λ e low hull. dite (ℕ_discrete (mark_of ws e) 0) (λ z. contains_unkilled E ws e low z) (λ z. absurd (hull_not_dead n e low hull (r.safe e low (omega arith))));
     greatest = λ fs closed. all-from-members (Contains U) fs (λ e has. let low = (All-contains (λ x. (x < E) × (IsHullNumber n x ⊎ IsSupported n fs x)) fs e closed has).0 in
         dite (ℕ_discrete (mark_of ws e) 0) (λ z. contains_unkilled E ws e low z) (λ z. absurd (r.safe e low (omega arith) fs closed has)));
   }

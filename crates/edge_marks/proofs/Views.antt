@@ -4,7 +4,7 @@ use mathlib.Core.Logic.{dite}
 use native.Mathlib.Decide.{ℕ_discrete}
 use Rattle.lmt_network.specs.Network.{NetworkParts}
 use Rattle.lmt_network.specs.Numbers.{AreLive}
-use Rattle.lmt_network.proofs.Laws.{live-same}
+use Rattle.lmt_network.proofs.Laws.{live_same}
 use Rattle.lmt_network.proofs.Picked.{contains-nil}
 use Rattle.edge_marks.specs.declared.view.Phase.{Phase}
 use Rattle.edge_marks.specs.declared.view.Phase.TheVariants.{Idle, Begun, Marked}
@@ -37,7 +37,7 @@ unkilled_contains (suc k) ws e h = let P : List ℕ → Type 0 = λ l. Contains 
 -- the unkilled edges are the same where each mark is zero as before
 pub live_words : (n : NetworkParts) (ws ws' : List ℕ) → ((e : ℕ) → e < length n.edges → mark_of ws e ≡ 0 → mark_of ws' e ≡ 0) → ((e : ℕ) → e < length n.edges → mark_of ws' e ≡ 0 → mark_of ws e ≡ 0)
     → AreLive n (unkilled (length n.edges) ws) → AreLive n (unkilled (length n.edges) ws')
-live_words n ws ws' to back live = live-same n (unkilled (length n.edges) ws) (unkilled (length n.edges) ws')
+live_words n ws ws' to back live = live_same n (unkilled (length n.edges) ws) (unkilled (length n.edges) ws')
     (λ e h. let r = unkilled_contains (length n.edges) ws e h in contains_unkilled (length n.edges) ws' e r.0 (to e r.0 r.1)) (λ e h. let r = unkilled_contains (length n.edges) ws' e h in contains_unkilled (length n.edges) ws e r.0 (back e r.0 r.1)) live
 
 phase_words : (n : NetworkParts) (ws ws' tried : List ℕ) (p : Phase) → ((e : ℕ) → e < length n.edges → 0 < mark_of ws e → 0 < mark_of ws' e) → PhaseHolds n ws tried p → PhaseHolds n ws' tried p

@@ -18,8 +18,8 @@ use Rattle.exact_predicates.proofs.Pairs.{hit_none, hit_same, hit_turned}
 use Rattle.lmt_network.specs.FlipMinimal.{IsEdgeOf}
 use Rattle.lmt_network.specs.Prices.{Priced, is_on_hull, priced_edges}
 use Rattle.lmt_network.proofs.CountedSums.{count}
-use Rattle.lmt_network.proofs.Entries.{IsEntry, contains-map, is_on_hull_decides, map-contains}
-use Rattle.lmt_network.proofs.Filters.{count-from, count-to}
+use Rattle.lmt_network.proofs.Entries.{IsEntry, contains_map, is_on_hull_decides, map-contains}
+use Rattle.lmt_network.proofs.Filters.{count_from, count_to}
 use Rattle.lmt_network.proofs.Naming.{EdgePrecedes-irreflexive}
 
 -- the ends of a pair, the lesser first, and those of a priced edge
@@ -41,9 +41,9 @@ priced-once (p ∷ prices) x y rise =
     ⊎_elim
     (λ none. omega (arith, sum_by-cons (hit x y) (ends p) (map ends prices), one))
     (λ some.
-    let (q, has, is) = map-contains ends prices (x, y) (count-to (map ends prices) x y some) in
+    let (q, has, is) = map-contains ends prices (x, y) (count_to (map ends prices) x y some) in
     let same : q.edge ≡ p.edge = Edge-equal q.edge p.edge (ap (λ (s : ℕ × ℕ). s.0) is ∙ sym e.0) (ap (λ (s : ℕ × ℕ). s.1) is ∙ sym e.1) in
-    let after = All-contains (EdgePrecedes p.edge) (priced_edges prices) q.edge (AllPairs-head EdgePrecedes p.edge (priced_edges prices) rise) (contains-map (λ r. r.edge) prices q has) in
+    let after = All-contains (EdgePrecedes p.edge) (priced_edges prices) q.edge (AllPairs-head EdgePrecedes p.edge (priced_edges prices) rise) (contains_map (λ r. r.edge) prices q has) in
     absurd (EdgePrecedes-irreflexive p.edge (subst (λ f. EdgePrecedes p.edge f) same after)))
     (cases_lt (count (map ends prices) x y) 1))
     (cases_lt (hit x y (ends p)) 1)
@@ -52,7 +52,7 @@ priced-once (p ∷ prices) x y rise =
 pub entry-once : (prices : List Priced) (x y : ℕ) (p : Priced) → AllPairs EdgePrecedes (priced_edges prices) → IsEntry prices x y p → count (map ends prices) x y ≡ 1
 entry-once prices x y p rise h =
     let is : ends p ≡ (x, y) = ap (λ a. (a, p.edge.b)) h.a_is ∙ ap (λ b. (x, b)) h.b_is in
-    omega (arith, priced-once prices x y rise, count-from (map ends prices) x y (subst (Contains (map ends prices)) is (contains-map ends prices p h.has)))
+    omega (arith, priced-once prices x y rise, count_from (map ends prices) x y (subst (Contains (map ends prices)) is (contains_map ends prices p h.has)))
 
 -- pairs are counted whichever way they run
 hit-up : (x y s t : ℕ) → x < y → hit x y (up (s, t)) ≡ hit x y (s, t) + hit y x (s, t)
@@ -70,23 +70,23 @@ hit-up x y s t l =
     ap (λ a. hit x y (a, max s t)) low ∙ (ap (λ b. hit x y (t, b)) high ∙ omega (arith, hit_turned x y t s)))
     (cases_lt s t)
 
-count-up : (es : List (ℕ × ℕ)) (x y : ℕ) → x < y → count (map up es) x y ≡ count es x y + count es y x
-count-up [] x y l = refl
-count-up (s ∷ es) x y l =
+count_up : (es : List (ℕ × ℕ)) (x y : ℕ) → x < y → count (map up es) x y ≡ count es x y + count es y x
+count_up [] x y l = refl
+count_up (s ∷ es) x y l =
     omega (
       arith,
       sum_by-cons (hit x y) (up s) (map up es),
       sum_by-cons (hit x y) s es,
       sum_by-cons (hit y x) s es,
       hit-up x y s.0 s.1 l,
-      count-up es x y l,
+      count_up es x y l,
     )
 
 -- an edge of the hull is an edge of each triangulation once
 pub hull-once : (ps : List Point) (hull : List ℕ) (tris : List Tri) (x y : ℕ) → IsHull ps hull → IsTriangulation ps hull tris → x < y → is_on_hull hull x y ≡ true
     → count (map up (edges hull tris)) x y ≡ 1
 hull-once ps hull tris x y h t l on =
-    let total = count-up (edges hull tris) x y l in
+    let total = count_up (edges hull tris) x y l in
     let sides = edge_count-sides ps hull tris x y h t l in
     ⊎_elim
     (λ (p : IsHullPair hull x y).
@@ -96,7 +96,7 @@ hull-once ps hull tris x y h t l on =
     ((is_on_hull_decides hull x y).0 on)
 
 -- an edge of the triangulation is counted
-pub edge-counted : (hull : List ℕ) (tris : List Tri) (e : Edge) → IsEdgeOf hull tris e → 1 ≤ count (map up (edges hull tris)) e.a e.b
-edge-counted hull tris e (k, s, k_in, at_k, joins) =
+pub edge_counted : (hull : List ℕ) (tris : List Tri) (e : Edge) → IsEdgeOf hull tris e → 1 ≤ count (map up (edges hull tris)) e.a e.b
+edge_counted hull tris e (k, s, k_in, at_k, joins) =
     let is : up s ≡ (e.a, e.b) = ap (λ a. (a, max s.0 s.1)) (sym joins.0) ∙ ap (λ b. (e.a, b)) (sym joins.1) in
-    count-from (map up (edges hull tris)) e.a e.b (subst (Contains (map up (edges hull tris))) is (contains-map up (edges hull tris) s (k, k_in, at_k)))
+    count_from (map up (edges hull tris)) e.a e.b (subst (Contains (map up (edges hull tris))) is (contains_map up (edges hull tris) s (k, k_in, at_k)))

@@ -14,23 +14,23 @@ use Rattle.exact_predicates.proofs.Rings.{place_of_pair}
 use Rattle.lmt_network.specs.Live.{IsHullEdge}
 use Rattle.lmt_network.specs.Network.{NetworkParts, IsNetwork}
 use Rattle.lmt_network.specs.Tables.{HasSidesIn}
-use Rattle.lmt_network.proofs.FlipMinimal.{edge-between, hull-edge, pair-candidate}
+use Rattle.lmt_network.proofs.FlipMinimal.{edge_between, hull_edge, pair_candidate}
 
-clear-candidate : (ps : List Point) (hull : List ℕ) (e : Edge) → IsHull ps hull → IsHullEdge hull e → IsCandidate ps hull Off e
-clear-candidate ps hull e hull_is h =
+clear_candidate : (ps : List Point) (hull : List ℕ) (e : Edge) → IsHull ps hull → IsHullEdge hull e → IsCandidate ps hull Off e
+clear_candidate ps hull e hull_is h =
     ⊎_elim
-    (λ p. pair-candidate ps hull e e.a e.b hull_is (Joins-ends e) p)
-    (λ p. pair-candidate ps hull e e.b e.a hull_is (Joins-comm e e.a e.b (Joins-ends e)) p)
+    (λ p. pair_candidate ps hull e e.a e.b hull_is (Joins-ends e) p)
+    (λ p. pair_candidate ps hull e e.b e.a hull_is (Joins-comm e e.a e.b (Joins-ends e)) p)
     h
 
 -- an edge of the hull is a candidate, whatever the test
-pub hull-candidate : (ps : List Point) (hull : List ℕ) (diamond : Diamond) (e : Edge) → IsHull ps hull → IsHullEdge hull e → IsCandidate ps hull diamond e
-hull-candidate ps hull Off e hull_is h = clear-candidate ps hull e hull_is h
-hull-candidate ps hull On e hull_is h = let c = clear-candidate ps hull e hull_is h in record { b_in = c.b_in; clear = c.clear; passes = inl h }
+pub hull_candidate : (ps : List Point) (hull : List ℕ) (diamond : Diamond) (e : Edge) → IsHull ps hull → IsHullEdge hull e → IsCandidate ps hull diamond e
+hull_candidate ps hull Off e hull_is h = clear_candidate ps hull e hull_is h
+hull_candidate ps hull On e hull_is h = let c = clear_candidate ps hull e hull_is h in record { b_in = c.b_in; clear = c.clear; passes = inl h }
 
 -- the two members of a pair of the hull are two points
-hull-apart : (ps : List Point) (hull : List ℕ) (u v : ℕ) → IsHull ps hull → IsHullPair hull u v → u ≢ v
-hull-apart ps hull u v hull_is p same =
+hull_apart : (ps : List Point) (hull : List ℕ) (u v : ℕ) → IsHull ps hull → IsHullPair hull u v → u ≢ v
+hull_apart ps hull u v hull_is p same =
     let (k, k_in, at_k, next) = place_of_pair hull u v p in
     let three = hull_is.three in
     ⊎_elim
@@ -39,15 +39,15 @@ hull-apart ps hull u v hull_is p same =
     next
 
 -- each pair of the hull is an edge among the candidates
-pub hull-there : (ps : List Point) (hull : List ℕ) (diamond : Diamond) (es : List Edge) → IsHull ps hull → AreCandidates ps hull diamond es → All (λ s. HasEdge es s.0 s.1) (ring_pairs hull)
-hull-there ps hull diamond es hull_is are k d k_in =
+pub hull_there : (ps : List Point) (hull : List ℕ) (diamond : Diamond) (es : List Edge) → IsHull ps hull → AreCandidates ps hull diamond es → All (λ s. HasEdge es s.0 s.1) (ring_pairs hull)
+hull_there ps hull diamond es hull_is are k d k_in =
     let s = get_or (ring_pairs hull) k d in
     let p : IsHullPair hull s.0 s.1 = Contains-get_or (ring_pairs hull) k d k_in in
-    let e = edge-between s.0 s.1 (hull-apart ps hull s.0 s.1 hull_is p) in
-    HasEdge-Contains es e.0 s.0 s.1 e.1 (are.all e.0 (hull-candidate ps hull diamond e.0 hull_is (at e.0 s.0 s.1 e.1 p)))
+    let e = edge_between s.0 s.1 (hull_apart ps hull s.0 s.1 hull_is p) in
+    HasEdge-Contains es e.0 s.0 s.1 e.1 (are.all e.0 (hull_candidate ps hull diamond e.0 hull_is (at e.0 s.0 s.1 e.1 p)))
   where
     at : (e : Edge) (u v : ℕ) → Joins e u v → IsHullPair hull u v → IsHullEdge hull e
-    at e u v joins p = hull-edge hull e u v joins p
+    at e u v joins p = hull_edge hull e u v joins p
 
 -- the sides of triangles over some edges
 pub sides-there : (ps : List Point) (es : List Edge) (ts : List Tri) → AreTrianglesOver ps es ts → All (HasSidesIn es) ts
@@ -56,15 +56,15 @@ sides-there ps es ts are k d k_in =
     record { ab = t.ab; bc = t.bc; ca = t.ca }
 
 -- so they make a network
-pub network-of : (n : NetworkParts) (diamond : Diamond) → IsPointSet n.points → IsHull n.points n.hull → AreCandidates n.points n.hull diamond n.edges → AreTrianglesOver n.points n.edges n.tris
+pub network_of : (n : NetworkParts) (diamond : Diamond) → IsPointSet n.points → IsHull n.points n.hull → AreCandidates n.points n.hull diamond n.edges → AreTrianglesOver n.points n.edges n.tris
     → length n.edges ≤ 400000 → length n.tris ≤ 4000000 → IsNetwork n
-network-of n diamond points_are hull_is candidates triangles few_edges few_tris =
+network_of n diamond points_are hull_is candidates triangles few_edges few_tris =
     record {
       points_are = points_are;
       hull_is = hull_is;
       ascending = candidates.ascending;
       ends_in = λ k d k_in. (candidates.each k d k_in).b_in;
-      hull_edges = λ e h. candidates.all e (hull-candidate n.points n.hull diamond e hull_is h);
+      hull_edges = λ e h. candidates.all e (hull_candidate n.points n.hull diamond e hull_is h);
       tris_are = triangles;
       few_edges = few_edges;
       few_tris = few_tris;

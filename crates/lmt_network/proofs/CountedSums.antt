@@ -5,7 +5,7 @@ use Rattle.std.proofs.lemmas.List.Sums.{sum_by-append, sum_by-cons}
 use Rattle.exact_predicates.specs.Triangulation.{hit}
 use Rattle.exact_predicates.proofs.Pairs.{hit_none, hit_same}
 use Rattle.lmt_network.specs.Prices.{int_sum_by}
-use Rattle.lmt_network.proofs.Filters.{count-from, count-to}
+use Rattle.lmt_network.proofs.Filters.{count_from, count_to}
 use Rattle.lmt_network.proofs.IntSums.{around, int_sum_by-append, int_sum_by-cons, int_sum_by-not_negative}
 
 -- how often x to y is in a list
@@ -18,8 +18,8 @@ pub record AreCovered (f : ℕ × ℕ → ℤ) (xs ys : List (ℕ × ℕ)) : Typ
   pub positive : (x y : ℕ) → pos 0 <ℤ f (x, y) → count xs x y ≤ count ys x y
 
 -- a pair that does not count may be left out
-covered-skip : (f : ℕ × ℕ → ℤ) (x y : ℕ) (xs ys : List (ℕ × ℕ)) → f (x, y) ≡ pos 0 → AreCovered f ((x, y) ∷ xs) ys → AreCovered f xs ys
-covered-skip f x y xs ys zero c =
+covered_skip : (f : ℕ × ℕ → ℤ) (x y : ℕ) (xs ys : List (ℕ × ℕ)) → f (x, y) ≡ pos 0 → AreCovered f ((x, y) ∷ xs) ys → AreCovered f xs ys
+covered_skip f x y xs ys zero c =
     record {
       negative = λ u v l. let e = other u v (λ same. absurd (omega (arith, ints, same, l))) in omega (arith, c.negative u v l, e, sum_by-cons (hit u v) (x, y) xs);
       positive = λ u v l. let e = other u v (λ same. absurd (omega (arith, ints, same, l))) in omega (arith, c.positive u v l, e, sum_by-cons (hit u v) (x, y) xs);
@@ -29,8 +29,8 @@ covered-skip f x y xs ys zero c =
     other u v some = hit_none u v x y (λ e. some (ap (λ n. f (n, v)) (sym e.0) ∙ (ap (λ n. f (x, n)) (sym e.1) ∙ zero)))
 
 -- a pair may be left out on both sides
-covered-drop : (f : ℕ × ℕ → ℤ) (x y : ℕ) (xs front back : List (ℕ × ℕ)) → AreCovered f ((x, y) ∷ xs) (front ++ (x, y) ∷ back) → AreCovered f xs (front ++ back)
-covered-drop f x y xs front back c =
+covered_drop : (f : ℕ × ℕ → ℤ) (x y : ℕ) (xs front back : List (ℕ × ℕ)) → AreCovered f ((x, y) ∷ xs) (front ++ (x, y) ∷ back) → AreCovered f xs (front ++ back)
+covered_drop f x y xs front back c =
     record {
       negative = λ u v l. omega (arith, c.negative u v l, sum_by-cons (hit u v) (x, y) xs, with_it u v, without u v);
       positive = λ u v l. omega (arith, c.positive u v l, sum_by-cons (hit u v) (x, y) xs, with_it u v, without u v);
@@ -47,7 +47,7 @@ pub sum-covered : (f : ℕ × ℕ → ℤ) (xs ys : List (ℕ × ℕ)) → AreCo
 sum-covered f [] ys c =
     int_sum_by-not_negative f ys
     (λ s m. by_lt_z (f s) (pos 0)
-    (λ l. absurd (omega (arith, c.negative s.0 s.1 l, count-from ys s.0 s.1 m)))
+    (λ l. absurd (omega (arith, c.negative s.0 s.1 l, count_from ys s.0 s.1 m)))
     (λ l. l))
 sum-covered f ((x, y) ∷ xs) ys c =
     by_lt_z (f (x, y)) (pos 0)
@@ -56,12 +56,12 @@ sum-covered f ((x, y) ∷ xs) ys c =
     (λ k. both (sum-covered f xs) (omega (arith, c.positive x y k, sum_by-cons (hit x y) (x, y) xs, hit_same x y)))
     (λ k.
     let zero : f (x, y) ≡ pos 0 = omega (arith, ints) in
-    omega (arith, ints, int_sum_by-cons f (x, y) xs, sum-covered f xs ys (covered-skip f x y xs ys zero c))))
+    omega (arith, ints, int_sum_by-cons f (x, y) xs, sum-covered f xs ys (covered_skip f x y xs ys zero c))))
   where
     both : ((zs : List (ℕ × ℕ)) → AreCovered f xs zs → int_sum_by f xs ≤ℤ int_sum_by f zs) → 1 ≤ count ys x y → int_sum_by f ((x, y) ∷ xs) ≤ℤ int_sum_by f ys
     both smaller some =
-        let (front, back, is) = around ys (x, y) (count-to ys x y some) in
-        let rest = smaller (front ++ back) (covered-drop f x y xs front back (subst (λ zs. AreCovered f ((x, y) ∷ xs) zs) is c)) in
+        let (front, back, is) = around ys (x, y) (count_to ys x y some) in
+        let rest = smaller (front ++ back) (covered_drop f x y xs front back (subst (λ zs. AreCovered f ((x, y) ∷ xs) zs) is c)) in
         omega (
           arith,
           ints,

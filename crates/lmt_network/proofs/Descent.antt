@@ -8,7 +8,7 @@ use Rattle.exact_predicates.specs.Length.{IsNotLonger, edge_d2}
 use Rattle.exact_predicates.specs.Triangulation.{IsTriangulation, edges}
 use Rattle.exact_predicates.proofs.Flips.{IsNotLonger-flip, IsNotLonger-refl, IsNotLonger-trans, IsTriangulation-flip, sum_d2-flip}
 use Rattle.lmt_network.specs.Bounds.{MinimalTriangulation, SomeFlipMinimal}
-use Rattle.lmt_network.proofs.Flippable.{IsFlippable, minimal-or-not}
+use Rattle.lmt_network.proofs.Flippable.{IsFlippable, minimal_or_not}
 
 -- a flip-minimal triangulation that is not longer
 abbrev Found : List Point → List ℕ → List Tri → Type 0
@@ -32,7 +32,7 @@ descent zero ps hull tris h t l =
     ⊎_elim
     (λ (m : IsFlipMinimal ps hull tris). here ps hull tris h t m)
     (λ (f : IsFlippable ps tris). absurd (omega (arith, l, sum_d2-flip ps hull tris f.new f.u f.v f.a f.b h t f.flip f.shortening)))
-    (minimal-or-not ps hull tris t)
+    (minimal_or_not ps hull tris t)
 descent (suc n) ps hull tris h t l =
     ⊎_elim
     (λ (m : IsFlipMinimal ps hull tris). here ps hull tris h t m)
@@ -40,7 +40,7 @@ descent (suc n) ps hull tris h t l =
     let falls = sum_d2-flip ps hull tris f.new f.u f.v f.a f.b h t f.flip f.shortening in
     after ps hull tris f h t
     (descent n ps hull f.new h (IsTriangulation-flip ps hull tris f.new f.u f.v f.a f.b h t f.flip f.shortening) (omega (arith, l, falls))))
-    (minimal-or-not ps hull tris t)
+    (minimal_or_not ps hull tris t)
 
-pub minimal-law : SomeFlipMinimal
-minimal-law ps hull first h t = descent (sum_by (edge_d2 ps) (edges hull first)) ps hull first h t (omega arith)
+pub minimal_law : SomeFlipMinimal
+minimal_law ps hull first h t = descent (sum_by (edge_d2 ps) (edges hull first)) ps hull first h t (omega arith)

@@ -16,12 +16,12 @@ use Rattle.lmt_network.proofs.Naming.{EdgePrecedes-irreflexive}
 use Rattle.lmt_network.proofs.Picked.{contains-cases, contains-here, contains-later, contains-nil}
 
 -- members of a mapped list
-pub contains-map : {X Y : Type 0} (g : X → Y) (xs : List X) (x : X) → Contains xs x → Contains (map g xs) (g x)
-contains-map g [] x h = absurd (contains-nil x h)
-contains-map g (y ∷ ys) x h =
+pub contains_map : {X Y : Type 0} (g : X → Y) (xs : List X) (x : X) → Contains xs x → Contains (map g xs) (g x)
+contains_map g [] x h = absurd (contains-nil x h)
+contains_map g (y ∷ ys) x h =
     ⊎_elim
     (λ (e : y ≡ x). subst (λ z. Contains (map g (y ∷ ys)) (g z)) e (contains-here (g y) (map g ys)))
-    (λ (later : Contains ys x). contains-later (g y) (g x) (map g ys) (contains-map g ys x later))
+    (λ (later : Contains ys x). contains-later (g y) (g x) (map g ys) (contains_map g ys x later))
     (contains-cases y x ys h)
 
 pub map-contains : {X Y : Type 0} (g : X → Y) (xs : List X) (y : Y) → Contains (map g xs) y → (x : X) × Contains xs x × (g x ≡ y)
@@ -83,7 +83,7 @@ find_priced-own (q ∷ prices) p up h =
         ⊎_elim
         (λ (is : q ≡ p). is)
         (λ (later : Contains prices p).
-        let before = All-contains (EdgePrecedes q.edge) (priced_edges prices) p.edge (AllPairs-head EdgePrecedes q.edge (priced_edges prices) up) (contains-map (λ r. r.edge) prices p later) in
+        let before = All-contains (EdgePrecedes q.edge) (priced_edges prices) p.edge (AllPairs-head EdgePrecedes q.edge (priced_edges prices) up) (contains_map (λ r. r.edge) prices p later) in
         absurd (EdgePrecedes-irreflexive p.edge (subst (λ e. EdgePrecedes e p.edge) same before)))
         (contains-cases q p prices h)
     at false e rest =

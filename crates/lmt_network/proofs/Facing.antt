@@ -13,11 +13,11 @@ use Rattle.exact_predicates.proofs.Corners.{IsBare, IsBare-corners, corners_diff
 use Rattle.exact_predicates.proofs.Elements.{Any-weaker}
 use Rattle.exact_predicates.proofs.Orientation.{orient_swapped, orient_swapped_last}
 use Rattle.exact_predicates.proofs.Pairs.{side_of_member}
-use Rattle.lmt_network.proofs.Angles.{left-chain, right-chain}
-use Rattle.lmt_network.proofs.Fans.{IsFan, fan-angle}
-use Rattle.lmt_network.proofs.Filters.{side-from, count-to}
+use Rattle.lmt_network.proofs.Angles.{left_chain, right_chain}
+use Rattle.lmt_network.proofs.Fans.{IsFan, fan_angle}
+use Rattle.lmt_network.proofs.Filters.{side_from, count_to}
 use Rattle.exact_predicates.proofs.Corners.{turned_corners}
-use Rattle.lmt_network.proofs.FlipMinimal.{pair-or-not}
+use Rattle.lmt_network.proofs.FlipMinimal.{pair_or_not}
 
 -- some triangle has the corners u, x and y in this turn
 abbrev pub HasTri : List Tri → ℕ → ℕ → ℕ → Type 0
@@ -27,13 +27,13 @@ pub HasTri-turned : (tris : List Tri) (u x y : ℕ) → HasTri tris u x y → Ha
 HasTri-turned tris u x y h = Any-weaker (λ t. HasCorners t u x y) (λ t. HasCorners t x y u) (λ t c. turned_corners t u x y c) tris h
 
 -- its sides are counted
-side-counted : (tris : List Tri) (u x y : ℕ) → HasTri tris u x y → 1 ≤ side_count tris u x
-side-counted tris u x y (k, t, k_in, at_k, c) = side_of_member tris k t u x y k_in at_k c
+side_counted : (tris : List Tri) (u x y : ℕ) → HasTri tris u x y → 1 ≤ side_count tris u x
+side_counted tris u x y (k, t, k_in, at_k, c) = side_of_member tris k t u x y k_in at_k c
 
 -- and a side that is counted is that of some triangle
 counted-side : (tris : List Tri) (u x : ℕ) → 1 ≤ side_count tris u x → (y : ℕ) × HasTri tris u x y
 counted-side tris u x l =
-    let (k, t, k_in, at_k, side) = side-from tris u x (count-to _ u x l) in
+    let (k, t, k_in, at_k, side) = side_from tris u x (count_to _ u x l) in
     (side.0, (k, t, k_in, at_k, side.1))
 
 pub HasTri-bare : (ps : List Point) (hull : List ℕ) (tris : List Tri) (u x y : ℕ) → IsTriangulation ps hull tris → HasTri tris u x y → (u ≢ x) × IsBare ps u x y
@@ -41,8 +41,8 @@ HasTri-bare ps hull tris u x y is (k, t, k_in, at_k, c) =
     (corners_differ t u x y c, IsBare-corners ps t u x y c (All-contains (IsEmpty ps) tris t is.empty (k, k_in, at_k)))
 
 -- each point is the first corner of some triangle, turned
-at-corner : (ps : List Point) (hull : List ℕ) (tris : List Tri) (u : ℕ) → IsTriangulation ps hull tris → u < length ps → (x y : ℕ) × HasTri tris u x y
-at-corner ps hull tris u is u_in =
+at_corner : (ps : List Point) (hull : List ℕ) (tris : List Tri) (u : ℕ) → IsTriangulation ps hull tris → u < length ps → (x y : ℕ) × HasTri tris u x y
+at_corner ps hull tris u is u_in =
     let (k, t, k_in, at_k, c) = is.corners u u_in in
     ⊎_elim
     (λ e. (t.b, t.c, (k, t, k_in, at_k, inl (sym e, refl, refl))))
@@ -53,22 +53,22 @@ at-corner ps hull tris u is u_in =
     c
 
 -- a side with a point to its right is a side the other way round too
-other-way : (ps : List Point) (hull : List ℕ) (tris : List Tri) (x y r : ℕ) → IsHull ps hull → IsTriangulation ps hull tris → x ≢ y → r < length ps
+other_way : (ps : List Point) (hull : List ℕ) (tris : List Tri) (x y r : ℕ) → IsHull ps hull → IsTriangulation ps hull tris → x ≢ y → r < length ps
     → orient (point_at ps x) (point_at ps y) (point_at ps r) <ℤ pos 0 → 1 ≤ side_count tris x y → 1 ≤ side_count tris y x
-other-way ps hull tris x y r hull_is is apart r_in right l =
+other_way ps hull tris x y r hull_is is apart r_in right l =
     ⊎_elim
     (λ pair. let h = hull_is.none_right x y r pair r_in in absurd (omega (arith, ints)))
     (λ none. ⊎_elim
     (λ pair. omega (arith, is.hull_once y x pair))
     (λ none_back. omega (arith, is.balanced x y apart none none_back))
-    (pair-or-not hull y x))
-    (pair-or-not hull x y)
+    (pair_or_not hull y x))
+    (pair_or_not hull x y)
 
 -- whether some triangle has this side
-has-or-not : (tris : List Tri) (u x : ℕ) → ((y : ℕ) × HasTri tris u x y) ⊎ (¬ ((y : ℕ) × HasTri tris u x y))
-has-or-not tris u x =
+has_or_not : (tris : List Tri) (u x : ℕ) → ((y : ℕ) × HasTri tris u x y) ⊎ (¬ ((y : ℕ) × HasTri tris u x y))
+has_or_not tris u x =
     ⊎_elim
-    (λ none. inr (λ h. let l = side-counted tris u x h.0 h.1 in absurd (omega arith)))
+    (λ none. inr (λ h. let l = side_counted tris u x h.0 h.1 in absurd (omega arith)))
     (λ l. inl (counted-side tris u x l))
     (cases_lt (side_count tris u x) 1)
 
@@ -78,34 +78,34 @@ fan : (ps : List Point) (hull : List ℕ) (tris : List Tri) (u v : ℕ) → IsHu
 fan ps hull tris u v hull_is is v_in =
     record {
       within = λ x y t. let bare = (HasTri-bare ps hull tris u x y is t).1 in bare.v_in;
-      is = has-or-not tris u;
+      is = has_or_not tris u;
       left = λ x y t. let bare = (HasTri-bare ps hull tris u x y is t).1 in bare.turns_left;
       swap = λ x y. omega (arith, ints, orient_swapped_last (point_at ps u) (point_at ps x) (point_at ps y));
-      chain = λ x y z. left-chain (point_at ps u) (point_at ps v) (point_at ps x) (point_at ps y) (point_at ps z);
+      chain = λ x y z. left_chain (point_at ps u) (point_at ps v) (point_at ps x) (point_at ps y) (point_at ps z);
       before = λ x y t l.
           let apart = (HasTri-bare ps hull tris u x y is t).0 in
-          let back = other-way ps hull tris u x v hull_is is apart v_in (omega (arith, ints, orient_swapped_last (point_at ps u) (point_at ps v) (point_at ps x))) (side-counted tris u x y t) in
+          let back = other_way ps hull tris u x v hull_is is apart v_in (omega (arith, ints, orient_swapped_last (point_at ps u) (point_at ps v) (point_at ps x))) (side_counted tris u x y t) in
           let (z, s) = counted-side tris x u back in
           (z, HasTri-turned tris x u z s);
     }
 
 -- the same in a mirror
-mirrored-fan : (ps : List Point) (hull : List ℕ) (tris : List Tri) (u v : ℕ) → IsHull ps hull → IsTriangulation ps hull tris → v < length ps
+mirrored_fan : (ps : List Point) (hull : List ℕ) (tris : List Tri) (u v : ℕ) → IsHull ps hull → IsTriangulation ps hull tris → v < length ps
     → IsFan (length ps) v (λ x y. HasTri tris u y x) (λ x y. orient (point_at ps u) (point_at ps y) (point_at ps x))
-mirrored-fan ps hull tris u v hull_is is v_in =
+mirrored_fan ps hull tris u v hull_is is v_in =
     record {
       within = λ x y t. let bare = (HasTri-bare ps hull tris u y x is t).1 in bare.w_in;
       is = λ x. ⊎_elim
           (λ (h : (y : ℕ) × HasTri tris x u y). inl (h.0, HasTri-turned tris x u h.0 h.1))
           (λ none. inr (λ (h : (y : ℕ) × HasTri tris u y x). none (h.0, HasTri-turned tris h.0 x u (HasTri-turned tris u h.0 x h.1))))
-          (has-or-not tris x u);
+          (has_or_not tris x u);
       left = λ x y t. let bare = (HasTri-bare ps hull tris u y x is t).1 in bare.turns_left;
       swap = λ x y. orient_swapped_last (point_at ps u) (point_at ps x) (point_at ps y);
-      chain = λ x y z hx hy hz xy yz. right-chain (point_at ps u) (point_at ps v) (point_at ps z) (point_at ps y) (point_at ps x) hz hy hx yz xy;
+      chain = λ x y z hx hy hz xy yz. right_chain (point_at ps u) (point_at ps v) (point_at ps z) (point_at ps y) (point_at ps x) hz hy hx yz xy;
       before = λ x y t l.
           let s = HasTri-turned tris y x u (HasTri-turned tris u y x t) in
           let apart = (HasTri-bare ps hull tris x u y is s).0 in
-          let back = other-way ps hull tris x u v hull_is is apart v_in (omega (arith, ints, orient_swapped (point_at ps u) (point_at ps x) (point_at ps v))) (side-counted tris x u y s) in
+          let back = other_way ps hull tris x u v hull_is is apart v_in (omega (arith, ints, orient_swapped (point_at ps u) (point_at ps x) (point_at ps v))) (side_counted tris x u y s) in
           counted-side tris u x back;
     }
 
@@ -115,13 +115,13 @@ pub facing : (ps : List Point) (hull : List ℕ) (tris : List Tri) (u v : ℕ) �
 facing ps hull tris u v hull_is is u_in v_in =
     let p = point_at ps u in
     let q = point_at ps v in
-    let (x, y, t) = at-corner ps hull tris u is u_in in
+    let (x, y, t) = at_corner ps hull tris u is u_in in
     by_lt_z (pos 0) (orient p q (point_at ps x))
     (λ left.
-    let (z, w, s, hz, hw) = fan-angle (length ps) v _ _ (fan ps hull tris u v hull_is is v_in) x y t left in
+    let (z, w, s, hz, hw) = fan_angle (length ps) v _ _ (fan ps hull tris u v hull_is is v_in) x y t left in
     (z, w, s, hz, omega (arith, ints)))
     (λ no_left. by_lt_z (pos 0) (orient p (point_at ps y) q)
     (λ right.
-    let (z, w, s, hz, hw) = fan-angle (length ps) v _ _ (mirrored-fan ps hull tris u v hull_is is v_in) y x t right in
+    let (z, w, s, hz, hw) = fan_angle (length ps) v _ _ (mirrored_fan ps hull tris u v hull_is is v_in) y x t right in
     (w, z, s, omega (arith, ints), hz))
     (λ no_right. (x, y, t, omega (arith, ints, orient_swapped_last p q (point_at ps x)), omega (arith, ints, orient_swapped_last p q (point_at ps y)))))

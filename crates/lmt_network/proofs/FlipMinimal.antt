@@ -26,10 +26,10 @@ use Rattle.exact_predicates.proofs.Rings.{place_of_pair}
 use Rattle.lmt_network.specs.FlipMinimal.{IsEdgeOf, AreEdgesOf, FlipMinimalIsClosed, FlipMinimalIsLive, EdgesAreCandidates}
 use Rattle.lmt_network.specs.Live.{IsHullEdge, HasSupport}
 use Rattle.lmt_network.specs.Numbers.{HasSide}
-use Rattle.lmt_network.proofs.Filters.{filter-from, filter-to, side-from, side-to, count-from, count-to}
-use Rattle.lmt_network.proofs.MinimalPairs.{turned-empty}
+use Rattle.lmt_network.proofs.Filters.{filter-from, filter-to, side_from, side_to, count_from, count_to}
+use Rattle.lmt_network.proofs.MinimalPairs.{turned_empty}
 use Rattle.lmt_network.proofs.Picked.{all-from-members}
-use Rattle.lmt_network.proofs.Segments.{between-inside, between-no-end}
+use Rattle.lmt_network.proofs.Segments.{between_inside, between_no_end}
 
 -- u and v are the ends of an edge of the triangulation: a pair of the hull, or a side that goes up and is none
 data IsEnds (hull : List ℕ) (tris : List Tri) (u v : ℕ) : Type 0 where
@@ -37,8 +37,8 @@ data IsEnds (hull : List ℕ) (tris : List Tri) (u v : ℕ) : Type 0 where
   inside : u < v → ¬ IsHullPair hull u v → Contains (filter (is_inner hull) (flat_map sides tris)) (u, v) → IsEnds hull tris u v
 
 -- the two ends of an edge of the triangulation
-ends-of : (hull : List ℕ) (tris : List Tri) (e : Edge) → IsEdgeOf hull tris e → (u : ℕ) × (v : ℕ) × Joins e u v × IsEnds hull tris u v
-ends-of hull tris e h =
+ends_of : (hull : List ℕ) (tris : List Tri) (e : Edge) → IsEdgeOf hull tris e → (u : ℕ) × (v : ℕ) × Joins e u v × IsEnds hull tris u v
+ends_of hull tris e h =
     ⊎_elim
     (λ left. let (k, s, k_in, at_k, joins) = left in (s.0, s.1, joins, pair (k, k_in, at_k)))
     (λ right.
@@ -49,50 +49,50 @@ ends-of hull tris e h =
     (Any-append_cases (λ s. Joins e s.0 s.1) (ring_pairs hull) (filter (is_inner hull) (flat_map sides tris)) h)
 
 -- a pair of the hull is an edge
-pair-edge : (hull : List ℕ) (tris : List Tri) (e : Edge) (u v : ℕ) → Joins e u v → IsHullPair hull u v → IsEdgeOf hull tris e
-pair-edge hull tris e u v joins (k, k_in, at_k) =
+pair_edge : (hull : List ℕ) (tris : List Tri) (e : Edge) (u v : ℕ) → Joins e u v → IsHullPair hull u v → IsEdgeOf hull tris e
+pair_edge hull tris e u v joins (k, k_in, at_k) =
     Any-append_left (λ s. Joins e s.0 s.1) (ring_pairs hull) (filter (is_inner hull) (flat_map sides tris)) (k, (u, v), k_in, at_k, joins)
 
 -- and so is each other side that goes up
-inner-edge : (hull : List ℕ) (tris : List Tri) (e : Edge) (u v : ℕ) → Joins e u v → u < v → ¬ IsHullPair hull u v → Contains (flat_map sides tris) (u, v) → IsEdgeOf hull tris e
-inner-edge hull tris e u v joins up none has =
+inner_edge : (hull : List ℕ) (tris : List Tri) (e : Edge) (u v : ℕ) → Joins e u v → u < v → ¬ IsHullPair hull u v → Contains (flat_map sides tris) (u, v) → IsEdgeOf hull tris e
+inner_edge hull tris e u v joins up none has =
     let (k, k_in, at_k) = filter-to (is_inner hull) (flat_map sides tris) (u, v) has ((is_inner_decides hull u v).1 (up, none)) in
     Any-append_right (λ s. Joins e s.0 s.1) (ring_pairs hull) (filter (is_inner hull) (flat_map sides tris)) (k, (u, v), k_in, at_k, joins)
 
-pub pair-or-not : (hull : List ℕ) (u v : ℕ) → IsHullPair hull u v ⊎ (¬ IsHullPair hull u v)
-pair-or-not hull u v =
+pub pair_or_not : (hull : List ℕ) (u v : ℕ) → IsHullPair hull u v ⊎ (¬ IsHullPair hull u v)
+pair_or_not hull u v =
     let d = is_pair_decides hull u v in
     ⊎_elim (λ t. inl (d.0 t)) (λ f. inr (λ p. false≢true (sym f ∙ d.1 p))) (cases_Bool (list_any (is_side u v) (ring_pairs hull)))
 
 -- the edge between two numbers
-pub edge-between : (u v : ℕ) → u ≢ v → (e : Edge) × Joins e u v
-edge-between u v apart =
+pub edge_between : (u v : ℕ) → u ≢ v → (e : Edge) × Joins e u v
+edge_between u v apart =
     ⊎_elim
     (λ (l : u < v). (record { a = u; b = v; ascending = l }, (omega arith, omega arith)))
     (λ (m : v ≤ u). let l : v < u = omega arith in (record { a = v; b = u; ascending = l }, (omega arith, omega arith)))
     (cases_lt u v)
 
 -- each side of a triangulation is an edge of it
-pub side-edge : (ps : List Point) (hull : List ℕ) (tris : List Tri) (e : Edge) (u v : ℕ) → IsTriangulation ps hull tris → Joins e u v → u ≢ v → Contains (flat_map sides tris) (u, v) → IsEdgeOf hull tris e
-side-edge ps hull tris e u v t joins apart has =
+pub side_edge : (ps : List Point) (hull : List ℕ) (tris : List Tri) (e : Edge) (u v : ℕ) → IsTriangulation ps hull tris → Joins e u v → u ≢ v → Contains (flat_map sides tris) (u, v) → IsEdgeOf hull tris e
+side_edge ps hull tris e u v t joins apart has =
     ⊎_elim
-    (λ p. pair-edge hull tris e u v joins p)
+    (λ p. pair_edge hull tris e u v joins p)
     (λ none. ⊎_elim
-    (λ p. pair-edge hull tris e v u (Joins-comm e u v joins) p)
+    (λ p. pair_edge hull tris e v u (Joins-comm e u v joins) p)
     (λ none_back. ⊎_elim
-    (λ (l : u < v). inner-edge hull tris e u v joins l none has)
+    (λ (l : u < v). inner_edge hull tris e u v joins l none has)
     (λ (m : v ≤ u).
     let balance = t.balanced u v apart none none_back in
-    let once = count-from (flat_map sides tris) u v has in
-    inner-edge hull tris e v u (Joins-comm e u v joins) (omega arith) none_back (count-to (flat_map sides tris) v u (omega (arith, balance, once))))
+    let once = count_from (flat_map sides tris) u v has in
+    inner_edge hull tris e v u (Joins-comm e u v joins) (omega arith) none_back (count_to (flat_map sides tris) v u (omega (arith, balance, once))))
     (cases_lt u v))
-    (pair-or-not hull v u))
-    (pair-or-not hull u v)
+    (pair_or_not hull v u))
+    (pair_or_not hull u v)
 
 -- a triangle of the list stands over a list that has the edges of the triangulation
-pub tri-over : (ps : List Point) (hull : List ℕ) (tris : List Tri) (es : List Edge) (t : Tri) → IsTriangulation ps hull tris → ((e : Edge) → IsEdgeOf hull tris e → Contains es e)
+pub tri_over : (ps : List Point) (hull : List ℕ) (tris : List Tri) (es : List Edge) (t : Tri) → IsTriangulation ps hull tris → ((e : Edge) → IsEdgeOf hull tris e → Contains es e)
     → Contains tris t → IsEmptyOver ps es t
-tri-over ps hull tris es t are edges_in (k, k_in, at_k) =
+tri_over ps hull tris es t are edges_in (k, k_in, at_k) =
     record {
       empty = All-contains (IsEmpty ps) tris t are.empty (k, k_in, at_k);
       ab = at t.a t.b (omega (arith, t.below_b)) (t.c, inl (refl, refl, refl));
@@ -102,8 +102,8 @@ tri-over ps hull tris es t are edges_in (k, k_in, at_k) =
   where
     at : (u v : ℕ) → u ≢ v → HasSide t u v → HasEdge es u v
     at u v apart side =
-        let e = edge-between u v apart in
-        HasEdge-Contains es e.0 u v e.1 (edges_in e.0 (side-edge ps hull tris e.0 u v are e.1 apart (side-to tris u v (k, t, k_in, at_k, side))))
+        let e = edge_between u v apart in
+        HasEdge-Contains es e.0 u v e.1 (edges_in e.0 (side_edge ps hull tris e.0 u v are e.1 apart (side_to tris u v (k, t, k_in, at_k, side))))
 
 -- the support of an inner edge of a flip-minimal triangulation
 support : (ps : List Point) (hull : List ℕ) (tris : List Tri) (es : List Edge) (e : Edge) (u v : ℕ) → IsTriangulation ps hull tris → AreEdgesOf hull tris es → Joins e u v → u < v → IsMinimalIn ps tris u v → HasSupport ps es e
@@ -119,14 +119,14 @@ support ps hull tris es e u v are edges_are joins up m =
       b = m.b;
       left_is = subst (λ (x : ℕ). HasCorners left x e.b m.a) a_is (subst (λ (y : ℕ). HasCorners left u y m.a) b_is left_is);
       right_is = subst (λ (y : ℕ). HasCorners right y e.a m.b) b_is (subst (λ (x : ℕ). HasCorners right v x m.b) a_is right_is);
-      left_over = tri-over ps hull tris es left are edges_are.all (i, i_in, at_i);
-      right_over = tri-over ps hull tris es right are edges_are.all (j, j_in, at_j);
+      left_over = tri_over ps hull tris es left are edges_are.all (i, i_in, at_i);
+      right_over = tri_over ps hull tris es right are edges_are.all (j, j_in, at_j);
       minimal = subst (λ (x : ℕ). IsMinimalBetween ps x e.b m.a m.b) a_is (subst (λ (y : ℕ). IsMinimalBetween ps u y m.a m.b) b_is m.minimal);
     }
 
 -- an edge that joins a pair of the hull is a hull edge
-pub hull-edge : (hull : List ℕ) (e : Edge) (u v : ℕ) → Joins e u v → IsHullPair hull u v → IsHullEdge hull e
-hull-edge hull e u v joins p =
+pub hull_edge : (hull : List ℕ) (e : Edge) (u v : ℕ) → Joins e u v → IsHullPair hull u v → IsHullEdge hull e
+hull_edge hull e u v joins p =
     let j0 = joins.0 in
     let j1 = joins.1 in
     ⊎_elim
@@ -138,17 +138,17 @@ hull-edge hull e u v joins p =
     inr (subst (λ (x : ℕ). IsHullPair hull x e.a) b_is (subst (λ (y : ℕ). IsHullPair hull u y) a_is p)))
     (cases_lt u v)
 
-pub closed-law : FlipMinimalIsClosed
-closed-law ps hull diamond tris es f candidates edges_are =
+pub closed_law : FlipMinimalIsClosed
+closed_law ps hull diamond tris es f candidates edges_are =
     record {
       ascending = edges_are.ascending;
       candidates = all-from-members (IsCandidate ps hull diamond) es (λ e has. candidates e (All-contains (IsEdgeOf hull tris) es e edges_are.each has));
       supported = all-from-members (λ e. IsHullEdge hull e ⊎ HasSupport ps es e) es
-          (λ e has. let ends = ends-of hull tris e (All-contains (IsEdgeOf hull tris) es e edges_are.each has) in at e ends.0 ends.1 ends.2 ends.3);
+          (λ e has. let ends = ends_of hull tris e (All-contains (IsEdgeOf hull tris) es e edges_are.each has) in at e ends.0 ends.1 ends.2 ends.3);
     }
   where
     at : (e : Edge) (u v : ℕ) → Joins e u v → IsEnds hull tris u v → IsHullEdge hull e ⊎ HasSupport ps es e
-    at e u v joins (pair p) = inl (hull-edge hull e u v joins p)
+    at e u v joins (pair p) = inl (hull_edge hull e u v joins p)
     at e u v joins (inside l none has) =
         inr (support ps hull tris es e u v f.triangulation edges_are joins l
         (All-contains (λ s. IsMinimalIn ps tris s.0 s.1) (filter (is_inner hull) (flat_map sides tris)) (u, v) f.minimal has))
@@ -157,35 +157,35 @@ closed-law ps hull diamond tris es f candidates edges_are =
 abbrev is_joined : Edge → ℕ × ℕ → Bool
 is_joined e s = eqb e.a (min s.0 s.1) && eqb e.b (max s.0 s.1)
 
-is_joined-decides : (e : Edge) (s : ℕ × ℕ) → Decides (is_joined e s) (Joins e s.0 s.1)
-is_joined-decides e s = Decides-and _ _ (Decides-eqb e.a (min s.0 s.1)) (Decides-eqb e.b (max s.0 s.1))
+is_joined_decides : (e : Edge) (s : ℕ × ℕ) → Decides (is_joined e s) (Joins e s.0 s.1)
+is_joined_decides e s = Decides-and _ _ (Decides-eqb e.a (min s.0 s.1)) (Decides-eqb e.b (max s.0 s.1))
 
 -- whether e is an edge of the triangulation
 abbrev pub is_edge : List ℕ → List Tri → Edge → Bool
 is_edge hull tris e = list_any (is_joined e) (edges hull tris)
 
-pub is_edge-from : (hull : List ℕ) (tris : List Tri) (e : Edge) → is_edge hull tris e ≡ true → IsEdgeOf hull tris e
-is_edge-from hull tris e h =
-    Any-weaker (λ s. is_joined e s ≡ true) (λ s. Joins e s.0 s.1) (λ s t. (is_joined-decides e s).0 t) (edges hull tris) (Any-from_list_any (is_joined e) (edges hull tris) h)
+pub is_edge_from : (hull : List ℕ) (tris : List Tri) (e : Edge) → is_edge hull tris e ≡ true → IsEdgeOf hull tris e
+is_edge_from hull tris e h =
+    Any-weaker (λ s. is_joined e s ≡ true) (λ s. Joins e s.0 s.1) (λ s t. (is_joined_decides e s).0 t) (edges hull tris) (Any-from_list_any (is_joined e) (edges hull tris) h)
 
-pub is_edge-to : (hull : List ℕ) (tris : List Tri) (e : Edge) → IsEdgeOf hull tris e → is_edge hull tris e ≡ true
-is_edge-to hull tris e h =
-    list_any-from_Any (is_joined e) (edges hull tris) (Any-weaker (λ s. Joins e s.0 s.1) (λ s. is_joined e s ≡ true) (λ s t. (is_joined-decides e s).1 t) (edges hull tris) h)
+pub is_edge_to : (hull : List ℕ) (tris : List Tri) (e : Edge) → IsEdgeOf hull tris e → is_edge hull tris e ≡ true
+is_edge_to hull tris e h =
+    list_any-from_Any (is_joined e) (edges hull tris) (Any-weaker (λ s. Joins e s.0 s.1) (λ s. is_joined e s ≡ true) (λ s t. (is_joined_decides e s).1 t) (edges hull tris) h)
 
-pub live-law : FlipMinimalIsLive
-live-law ps hull diamond tris candidates live f are_candidates candidates_are is_live e h =
+pub live_law : FlipMinimalIsLive
+live_law ps hull diamond tris candidates live f are_candidates candidates_are is_live e h =
     let es = filter (is_edge hull tris) candidates in
     let edges_are : AreEdgesOf hull tris es = record {
       ascending = AllPairs-filter EdgePrecedes (is_edge hull tris) candidates candidates_are.ascending;
-      each = all-from-members (IsEdgeOf hull tris) es (λ x has. is_edge-from hull tris x (filter-from (is_edge hull tris) candidates x has).1);
-      all = λ x is. filter-to (is_edge hull tris) candidates x (candidates_are.all x (are_candidates x is)) (is_edge-to hull tris x is);
+      each = all-from-members (IsEdgeOf hull tris) es (λ x has. is_edge_from hull tris x (filter-from (is_edge hull tris) candidates x has).1);
+      all = λ x is. filter-to (is_edge hull tris) candidates x (candidates_are.all x (are_candidates x is)) (is_edge_to hull tris x is);
     } in
-    All-contains (Contains live) es e (is_live.greatest es (closed-law ps hull diamond tris es f are_candidates edges_are)) (edges_are.all e h)
+    All-contains (Contains live) es e (is_live.greatest es (closed_law ps hull diamond tris es f are_candidates edges_are)) (edges_are.all e h)
 
 -- where a point lies in the triangle, from any corner on
-inside-turned : (ps : List Point) (t : Tri) (u v w : ℕ) (r : Point) → HasCorners t u v w → IsInClosedTriangle (point_at ps u) (point_at ps v) (point_at ps w) r
+inside_turned : (ps : List Point) (t : Tri) (u v w : ℕ) (r : Point) → HasCorners t u v w → IsInClosedTriangle (point_at ps u) (point_at ps v) (point_at ps w) r
     → IsInClosedTriangle (point_at ps t.a) (point_at ps t.b) (point_at ps t.c) r
-inside-turned ps t u v w r h i =
+inside_turned ps t u v w r h i =
     let P : ℕ → ℕ → ℕ → Type 0 = λ x y z. IsInClosedTriangle (point_at ps x) (point_at ps y) (point_at ps z) r in
     ⊎_elim
     (λ c. moved P c i)
@@ -202,11 +202,11 @@ inside-turned ps t u v w r h i =
 -- no point is between two corners of an empty triangle
 none-between : (ps : List Point) (t : Tri) (u v w r : ℕ) → IsEmpty ps t → HasCorners t u v w → r < length ps → ¬ IsBetween (point_at ps u) (point_at ps v) (point_at ps r)
 none-between ps t u v w r h corners r_in b =
-    let area = (turned-empty ps t u v w h corners).1 in
-    let at_u : r ≢ u = λ e. between-no-end (point_at ps u) (point_at ps v) (subst (λ (x : ℕ). IsBetween (point_at ps u) (point_at ps v) (point_at ps x)) e b) in
-    let at_v : r ≢ v = λ e. between-no-end (point_at ps v) (point_at ps u) (IsBetween-turned (point_at ps u) (point_at ps v) (point_at ps v) (subst (λ (x : ℕ). IsBetween (point_at ps u) (point_at ps v) (point_at ps x)) e b)) in
+    let area = (turned_empty ps t u v w h corners).1 in
+    let at_u : r ≢ u = λ e. between_no_end (point_at ps u) (point_at ps v) (subst (λ (x : ℕ). IsBetween (point_at ps u) (point_at ps v) (point_at ps x)) e b) in
+    let at_v : r ≢ v = λ e. between_no_end (point_at ps v) (point_at ps u) (IsBetween-turned (point_at ps u) (point_at ps v) (point_at ps v) (subst (λ (x : ℕ). IsBetween (point_at ps u) (point_at ps v) (point_at ps x)) e b)) in
     let at_w : r ≢ w = λ e. let line : orient (point_at ps u) (point_at ps v) (point_at ps w) ≡ pos 0 = ap (λ x. orient (point_at ps u) (point_at ps v) (point_at ps x)) (sym e) ∙ b.on_line in absurd (omega (arith, ints)) in
-    let corner : IsCorner t r = h.bare r r_in (inside-turned ps t u v w (point_at ps r) corners (between-inside (point_at ps u) (point_at ps v) (point_at ps w) (point_at ps r) b area)) in
+    let corner : IsCorner t r = h.bare r r_in (inside_turned ps t u v w (point_at ps r) corners (between_inside (point_at ps u) (point_at ps v) (point_at ps w) (point_at ps r) b area)) in
     ⊎_elim
     (λ c. ⊎_elim (λ e. at_u (e ∙ c.0)) (λ o. ⊎_elim (λ e. at_v (e ∙ c.1)) (λ e. at_w (e ∙ c.2)) o) corner)
     (λ m. ⊎_elim
@@ -216,9 +216,9 @@ none-between ps t u v w r h corners r_in b =
     corners
 
 -- an edge is a candidate with the test off, by its ends
-candidate-off : (ps : List Point) (hull : List ℕ) (e : Edge) (u v : ℕ) → Joins e u v → u < length ps → v < length ps
+candidate_off : (ps : List Point) (hull : List ℕ) (e : Edge) (u v : ℕ) → Joins e u v → u < length ps → v < length ps
     → ((r : ℕ) → r < length ps → ¬ IsBetween (point_at ps u) (point_at ps v) (point_at ps r)) → IsCandidate ps hull Off e
-candidate-off ps hull e u v joins u_in v_in none =
+candidate_off ps hull e u v joins u_in v_in none =
     let j0 = joins.0 in
     let j1 = joins.1 in
     record {
@@ -236,27 +236,27 @@ candidate-off ps hull e u v joins u_in v_in none =
     }
 
 -- an edge of the hull is a candidate
-pub pair-candidate : (ps : List Point) (hull : List ℕ) (e : Edge) (u v : ℕ) → IsHull ps hull → Joins e u v → IsHullPair hull u v → IsCandidate ps hull Off e
-pair-candidate ps hull e u v hull_is joins p =
+pub pair_candidate : (ps : List Point) (hull : List ℕ) (e : Edge) (u v : ℕ) → IsHull ps hull → Joins e u v → IsHullPair hull u v → IsCandidate ps hull Off e
+pair_candidate ps hull e u v hull_is joins p =
     let (k, k_in, at_k, next) = place_of_pair hull u v p in
     let u_in : u < length ps = subst (λ (x : ℕ). x < length ps) at_k (hull_is.within k 0 k_in) in
     let v_in : v < length ps = ⊎_elim
     (λ n. subst (λ (x : ℕ). x < length ps) n.1 (hull_is.within (k + 1) 0 n.0))
     (λ n. subst (λ (x : ℕ). x < length ps) n.1 (hull_is.within 0 0 (omega (arith, n.0))))
     next in
-    candidate-off ps hull e u v joins u_in v_in (λ r r_in. hull_is.none_between u v r p r_in)
+    candidate_off ps hull e u v joins u_in v_in (λ r r_in. hull_is.none_between u v r p r_in)
 
-pub candidates-law : EdgesAreCandidates
-candidates-law ps hull tris hull_is are e h =
-    let ends = ends-of hull tris e h in
+pub candidates_law : EdgesAreCandidates
+candidates_law ps hull tris hull_is are e h =
+    let ends = ends_of hull tris e h in
     at ends.0 ends.1 ends.2 ends.3
   where
     at : (u v : ℕ) → Joins e u v → IsEnds hull tris u v → IsCandidate ps hull Off e
-    at u v joins (pair p) = pair-candidate ps hull e u v hull_is joins p
+    at u v joins (pair p) = pair_candidate ps hull e u v hull_is joins p
     at u v joins (inside l none has) =
-        let (k, t, k_in, at_k, side) = side-from tris u v (filter-from (is_inner hull) (flat_map sides tris) (u, v) has).0 in
+        let (k, t, k_in, at_k, side) = side_from tris u v (filter-from (is_inner hull) (flat_map sides tris) (u, v) has).0 in
         let w = side.0 in
         let empty = All-contains (IsEmpty ps) tris t are.empty (k, k_in, at_k) in
-        let u_in = (turned-empty ps t v w u empty (turned_corners t u v w side.1)).0 in
-        let v_in = (turned-empty ps t w u v empty (turned_corners t v w u (turned_corners t u v w side.1))).0 in
-        candidate-off ps hull e u v joins u_in v_in (λ r r_in. none-between ps t u v w r empty side.1 r_in)
+        let u_in = (turned_empty ps t v w u empty (turned_corners t u v w side.1)).0 in
+        let v_in = (turned_empty ps t w u v empty (turned_corners t v w u (turned_corners t u v w side.1))).0 in
+        candidate_off ps hull e u v joins u_in v_in (λ r r_in. none-between ps t u v w r empty side.1 r_in)

@@ -14,27 +14,27 @@ use Rattle.exact_predicates.specs.Triangulation.{HasCorners, IsTriangulation, is
 use Rattle.exact_predicates.proofs.Corners.{corners_differ}
 use Rattle.exact_predicates.proofs.Flips.{apart_differ}
 use Rattle.lmt_network.proofs.Entries.{is_on_hull_decides}
-use Rattle.lmt_network.proofs.Filters.{count-from, count-to, filter-from, side-from}
+use Rattle.lmt_network.proofs.Filters.{count_from, count_to, filter-from, side_from}
 use Rattle.exact_predicates.proofs.Corners.{turned_corners}
 use Rattle.lmt_network.proofs.Picked.{contains-here, contains-later}
 use Rattle.lmt_network.proofs.Shares.{inner_sides}
-use Rattle.lmt_network.proofs.Slacks.{inner-off}
+use Rattle.lmt_network.proofs.Slacks.{inner_off}
 
 -- each element keeps P, or Q holds, where either is so at each
-all-or : {X : Type 0} (P : X → Type 0) (Q : Type 0) (xs : List X) → ((x : X) → Contains xs x → P x ⊎ Q) → All P xs ⊎ Q
-all-or P Q [] each = inl (λ k d l. absurd (omega arith))
-all-or P Q (x ∷ xs) each =
+all_or : {X : Type 0} (P : X → Type 0) (Q : Type 0) (xs : List X) → ((x : X) → Contains xs x → P x ⊎ Q) → All P xs ⊎ Q
+all_or P Q [] each = inl (λ k d l. absurd (omega arith))
+all_or P Q (x ∷ xs) each =
     ⊎_elim
     (λ (first : P x). ⊎_elim
     (λ (rest : All P xs). inl (All-cons P x xs first rest))
     (λ (q : Q). inr q)
-    (all-or P Q xs (λ y h. each y (contains-later x y xs h))))
+    (all_or P Q xs (λ y h. each y (contains-later x y xs h))))
     (λ (q : Q). inr q)
     (each x (contains-here x xs))
 
 -- the triangle with these corners in this turn
-tri-of : (u v w : ℕ) → u ≢ v → v ≢ w → w ≢ u → (t : Tri) × HasCorners t u v w
-tri-of u v w uv vw wu =
+tri_of : (u v w : ℕ) → u ≢ v → v ≢ w → w ≢ u → (t : Tri) × HasCorners t u v w
+tri_of u v w uv vw wu =
     ⊎_elim
     (λ (l : u < v). ⊎_elim
     (λ (k : u < w). (record { a = u; b = v; c = w; below_b = l; below_c = k; apart = vw }, inl (refl, refl, refl)))
@@ -59,8 +59,8 @@ one_way t u v a b h k =
     h
 
 -- whether two signs are opposite
-opposite-or-not : (x y : ℤ) → (((x <ℤ pos 0) × (pos 0 <ℤ y)) ⊎ ((pos 0 <ℤ x) × (y <ℤ pos 0))) ⊎ (¬ (((x <ℤ pos 0) × (pos 0 <ℤ y)) ⊎ ((pos 0 <ℤ x) × (y <ℤ pos 0))))
-opposite-or-not x y =
+opposite_or_not : (x y : ℤ) → (((x <ℤ pos 0) × (pos 0 <ℤ y)) ⊎ ((pos 0 <ℤ x) × (y <ℤ pos 0))) ⊎ (¬ (((x <ℤ pos 0) × (pos 0 <ℤ y)) ⊎ ((pos 0 <ℤ x) × (y <ℤ pos 0))))
+opposite_or_not x y =
     by_lt_z x (pos 0)
     (λ l. by_lt_z (pos 0) y
     (λ k. inl (inl (l, k)))
@@ -71,15 +71,15 @@ opposite-or-not x y =
     (λ k. inr (λ h. ⊎_elim (λ e. omega (arith, ints, e.0, l)) (λ e. omega (arith, ints, e.1, k)) h)))
     (λ m. inr (λ h. ⊎_elim (λ e. omega (arith, ints, e.0, l)) (λ e. omega (arith, ints, e.0, m)) h)))
 
-crosses-or-not : (p q r s : Point) → Crosses p q r s ⊎ (¬ Crosses p q r s)
-crosses-or-not p q r s =
+crosses_or_not : (p q r s : Point) → Crosses p q r s ⊎ (¬ Crosses p q r s)
+crosses_or_not p q r s =
     ⊎_elim
     (λ (line : AreApart p q r s). ⊎_elim
     (λ (other : AreApart r s p q). inl (record { by_line = line; by_other = other }))
     (λ none. inr (λ c. none c.by_other))
-    (opposite-or-not (orient r s p) (orient r s q)))
+    (opposite_or_not (orient r s p) (orient r s q)))
     (λ none. inr (λ c. none c.by_line))
-    (opposite-or-not (orient p q r) (orient p q s))
+    (opposite_or_not (orient p q r) (orient p q s))
 
 -- a flip that makes an edge shorter
 pub record IsFlippable (ps : List Point) (tris : List Tri) : Type 0 where
@@ -92,16 +92,16 @@ pub record IsFlippable (ps : List Point) (tris : List Tri) : Type 0 where
   pub shortening : IsShortening ps u v a b
 
 -- an inner side is locally minimal, or it is flipped
-minimal-or-flippable : (ps : List Point) (tris : List Tri) (u v a b i j : ℕ) (left right : Tri) → i < length tris → get_or tris i left ≡ left → HasCorners left u v a
+minimal_or_flippable : (ps : List Point) (tris : List Tri) (u v a b i j : ℕ) (left right : Tri) → i < length tris → get_or tris i left ≡ left → HasCorners left u v a
     → j < length tris → get_or tris j right ≡ right → HasCorners right v u b → IsMinimalIn ps tris u v ⊎ IsFlippable ps tris
-minimal-or-flippable ps tris u v a b i j left right i_in at_i left_is j_in at_j right_is =
+minimal_or_flippable ps tris u v a b i j left right i_in at_i left_is j_in at_j right_is =
     ⊎_elim
     (λ (c : Crosses (point_at ps u) (point_at ps v) (point_at ps a) (point_at ps b)). ⊎_elim
     (λ (l : d2 (point_at ps a) (point_at ps b) < d2 (point_at ps u) (point_at ps v)). inr (flipped (record { convex = c; shorter = l })))
     (λ (l : d2 (point_at ps u) (point_at ps v) ≤ d2 (point_at ps a) (point_at ps b)). inl (minimal (inr l)))
     (cases_lt (d2 (point_at ps a) (point_at ps b)) (d2 (point_at ps u) (point_at ps v))))
     (λ none. inl (minimal (inl none)))
-    (crosses-or-not (point_at ps u) (point_at ps v) (point_at ps a) (point_at ps b))
+    (crosses_or_not (point_at ps u) (point_at ps v) (point_at ps a) (point_at ps b))
   where
     minimal : IsMinimalBetween ps u v a b → IsMinimalIn ps tris u v
     minimal m = record { a = a; b = b; on_left = (i, left, i_in, at_i, left_is); on_right = (j, right, j_in, at_j, right_is); minimal = m }
@@ -118,8 +118,8 @@ minimal-or-flippable ps tris u v a b i j left right i_in at_i left_is j_in at_j 
         let a_u = corners_differ left a u v (turned_corners left v a u (turned_corners left u v a left_is)) in
         let u_b = corners_differ right u b v (turned_corners right v u b right_is) in
         let b_v = corners_differ right b v u (turned_corners right u b v (turned_corners right v u b right_is)) in
-        let top = tri-of u b a u_b (λ e. a_b (sym e)) a_u in
-        let bottom = tri-of v a b v_a a_b b_v in
+        let top = tri_of u b a u_b (λ e. a_b (sym e)) a_u in
+        let bottom = tri_of v a b v_a a_b b_v in
         record {
           new = set (set tris i top.0) j bottom.0;
           u = u;
@@ -148,17 +148,17 @@ minimal-or-flippable ps tris u v a b i j left right i_in at_i left_is j_in at_j 
         }
 
 -- and so for all of them
-pub minimal-or-not : (ps : List Point) (hull : List ℕ) (tris : List Tri) → IsTriangulation ps hull tris → IsFlipMinimal ps hull tris ⊎ IsFlippable ps tris
-minimal-or-not ps hull tris t = all-or (λ e. IsMinimalIn ps tris e.0 e.1) (IsFlippable ps tris) (inner_sides hull tris) (λ s h. at s.0 s.1 h)
+pub minimal_or_not : (ps : List Point) (hull : List ℕ) (tris : List Tri) → IsTriangulation ps hull tris → IsFlipMinimal ps hull tris ⊎ IsFlippable ps tris
+minimal_or_not ps hull tris t = all_or (λ e. IsMinimalIn ps tris e.0 e.1) (IsFlippable ps tris) (inner_sides hull tris) (λ s h. at s.0 s.1 h)
   where
     at : (u v : ℕ) → Contains (inner_sides hull tris) (u, v) → IsMinimalIn ps tris u v ⊎ IsFlippable ps tris
     at u v h =
-        let off = inner-off ps hull tris u v t h in
+        let off = inner_off ps hull tris u v t h in
         let forth : ¬ IsHullPair hull u v = λ p. false≢true (sym off.0 ∙ (is_on_hull_decides hull u v).1 (inl p)) in
         let back : ¬ IsHullPair hull v u = λ p. false≢true (sym off.0 ∙ (is_on_hull_decides hull u v).1 (inr p)) in
         let there = (filter-from (is_inner hull) (flat_map sides tris) (u, v) h).0 in
         let balance = t.balanced u v (λ e. absurd (omega (arith, e, off.1))) forth back in
-        let again = count-to (flat_map sides tris) v u (omega (arith, balance, count-from (flat_map sides tris) u v there)) in
-        let (i, left, i_in, at_i, left_side) = side-from tris u v there in
-        let (j, right, j_in, at_j, right_side) = side-from tris v u again in
-        minimal-or-flippable ps tris u v left_side.0 right_side.0 i j left right i_in at_i left_side.1 j_in at_j right_side.1
+        let again = count_to (flat_map sides tris) v u (omega (arith, balance, count_from (flat_map sides tris) u v there)) in
+        let (i, left, i_in, at_i, left_side) = side_from tris u v there in
+        let (j, right, j_in, at_j, right_side) = side_from tris v u again in
+        minimal_or_flippable ps tris u v left_side.0 right_side.0 i j left right i_in at_i left_side.1 j_in at_j right_side.1

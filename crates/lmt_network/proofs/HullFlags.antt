@@ -11,12 +11,12 @@ use Rattle.lmt_network.specs.Live.{IsHullEdge}
 use Rattle.lmt_network.specs.Network.{NetworkParts, edge_at}
 use Rattle.lmt_network.specs.Numbers.{IsHullNumber}
 use Rattle.lmt_network.specs.Tables.{AreHullFlags}
-use Rattle.lmt_network.proofs.FlipMinimal.{hull-edge}
+use Rattle.lmt_network.proofs.FlipMinimal.{hull_edge}
 use Rattle.lmt_network.proofs.Naming.{edge_at-once}
 
 -- what a flag says
-pub flag-read : (n : NetworkParts) (flags : List Bool) (e : ℕ) (r : Bool) → AreHullFlags n.hull n.edges flags → e < length n.edges → r ≡ slice_index_or flags e r → IsTrue r ↔ IsHullNumber n e
-flag-read n flags e r are e_in is =
+pub flag_read : (n : NetworkParts) (flags : List Bool) (e : ℕ) (r : Bool) → AreHullFlags n.hull n.edges flags → e < length n.edges → r ≡ slice_index_or flags e r → IsTrue r ↔ IsHullNumber n e
+flag_read n flags e r are e_in is =
     let many = are.as_many in
     let same : slice_index_or flags e false ≡ r = get_or_default flags e false r (omega arith) ∙ sym is in
     let both = are.each e e_in _ in
@@ -28,8 +28,8 @@ pub record AreFlagsUpto (hull : List ℕ) (es : List Edge) (i : ℕ) (flags : Li
   pub only : (e : ℕ) → e < length es → slice_index_or flags e false ≡ true → HoldsAt (IsHullEdge hull) es e
   pub each : (k u v : ℕ) → k < i → slice_index hull k ≡ u → IsNext hull k v → (e : ℕ) → e < length es → HoldsAt (λ x. Joins x u v) es e → slice_index_or flags e false ≡ true
 
-pub flags-none : (hull : List ℕ) (es : List Edge) (flags : List Bool) → flags ≡ replicate (length es) false → AreFlagsUpto hull es 0 flags
-flags-none hull es flags is =
+pub flags_none : (hull : List ℕ) (es : List Edge) (flags : List Bool) → flags ≡ replicate (length es) false → AreFlagsUpto hull es 0 flags
+flags_none hull es flags is =
     rw is (record {
       as_many = length-replicate (length es) false;
       only = λ e e_in set. absurd (false≢true (sym (get_or-replicate (length es) e false false e_in) ∙ set));
@@ -37,20 +37,20 @@ flags-none hull es flags is =
     })
 
 -- the edge with two ends has one number
-joins-once : (es : List Edge) (u v i j : ℕ) → AllPairs EdgePrecedes es → i < length es → j < length es → HoldsAt (λ x. Joins x u v) es i → HoldsAt (λ x. Joins x u v) es j → i ≡ j
-joins-once es u v i j up i_in j_in h k =
+joins_once : (es : List Edge) (u v i j : ℕ) → AllPairs EdgePrecedes es → i < length es → j < length es → HoldsAt (λ x. Joins x u v) es i → HoldsAt (λ x. Joins x u v) es j → i ≡ j
+joins_once es u v i j up i_in j_in h k =
     let n : NetworkParts = record { points = []; hull = []; edges = es; tris = [] } in
     edge_at-once n i j up i_in j_in (Joins-only (edge_at n i) (edge_at n j) u v (h _) (k _))
 
-pub flags-more : (hull : List ℕ) (es : List Edge) (i : ℕ) (flags : List Bool) (v e : ℕ) → AllPairs EdgePrecedes es → AreFlagsUpto hull es i flags → i < length hull → IsNext hull i v
+pub flags_more : (hull : List ℕ) (es : List Edge) (i : ℕ) (flags : List Bool) (v e : ℕ) → AllPairs EdgePrecedes es → AreFlagsUpto hull es i flags → i < length hull → IsNext hull i v
     → e < length es → HoldsAt (λ x. Joins x (slice_index hull i) v) es e → AreFlagsUpto hull es (i + 1) (set flags e true)
-flags-more hull es i flags v e up are i_in next e_in joins =
+flags_more hull es i flags v e up are i_in next e_in joins =
     let many = are.as_many in
     record {
       as_many = omega (arith, length-set flags e true, many);
       only = λ f f_in is_set. ⊎_elim
           (λ (same : f ≡ e).
-          let here : HoldsAt (IsHullEdge hull) es e = λ d. hull-edge hull (slice_index_or es e d) (slice_index hull i) v (joins d) (pair_of_place hull (slice_index hull i) v i i_in refl next) in
+          let here : HoldsAt (IsHullEdge hull) es e = λ d. hull_edge hull (slice_index_or es e d) (slice_index hull i) v (joins d) (pair_of_place hull (slice_index hull i) v i i_in refl next) in
           subst (HoldsAt (IsHullEdge hull) es) (sym same) here)
           (λ (other : f ≢ e). are.only f f_in (sym (get_or-set_other flags e f true false other) ∙ is_set))
           (cases_eq f e);
@@ -63,7 +63,7 @@ flags-more hull es i flags v e up are i_in next e_in joins =
           let u_is : u ≡ slice_index hull i = sym at_k ∙ ap (slice_index hull) k_is in
           let w_is : w ≡ v = next-once hull i w v (subst (λ (x : ℕ). IsNext hull x w) k_is follows) next in
           let ends_f : HoldsAt (λ x. Joins x (slice_index hull i) v) es f = subst (λ (x : ℕ). HoldsAt (λ y. Joins y x v) es f) u_is (subst (λ (x : ℕ). HoldsAt (λ y. Joins y u x) es f) w_is ends) in
-          absurd (other (joins-once es (slice_index hull i) v f e up f_in e_in ends_f joins)))
+          absurd (other (joins_once es (slice_index hull i) v f e up f_in e_in ends_f joins)))
           (cases_lt k i))
           (cases_eq f e);
     }
@@ -75,8 +75,8 @@ flags-more hull es i flags v e up are i_in next e_in joins =
         (λ p. ⊎_elim (λ q. absurd (omega (arith, p.0, q.0))) (λ q. sym p.1 ∙ q.1) b)
         a
 
-pub flags-all : (hull : List ℕ) (es : List Edge) (i : ℕ) (flags : List Bool) → AreFlagsUpto hull es i flags → length hull ≤ i → AreHullFlags hull es flags
-flags-all hull es i flags are all =
+pub flags_all : (hull : List ℕ) (es : List Edge) (i : ℕ) (flags : List Bool) → AreFlagsUpto hull es i flags → length hull ≤ i → AreHullFlags hull es flags
+flags_all hull es i flags are all =
     record {
       as_many = are.as_many;
       each = λ e e_in d.

@@ -16,25 +16,25 @@ pub IsSupported-more : (n : NetworkParts) (es fs : List ℕ) (e : ℕ) → ((f :
 IsSupported-more n es fs e more s = record { l = s.l; r = s.r; pair = s.pair; others = λ f h. more f (s.others f h) }
 
 -- Where some edges have every closed one, an edge that is no hull edge and has no support among them is dead.
-pub dead-if-unsupported : (n : NetworkParts) (es : List ℕ) (e : ℕ) → ((fs : List ℕ) → AreClosed n fs → All (Contains es) fs)
+pub dead_if_unsupported : (n : NetworkParts) (es : List ℕ) (e : ℕ) → ((fs : List ℕ) → AreClosed n fs → All (Contains es) fs)
     → ¬ IsHullNumber n e → ¬ IsSupported n es e → IsDead n e
-dead-if-unsupported n es e every inner unsupported fs closed has =
+dead_if_unsupported n es e every inner unsupported fs closed has =
     ⊎_elim
     (λ (h : IsHullNumber n e). inner h)
     (λ (s : IsSupported n fs e). unsupported (IsSupported-more n fs es e (λ f in_fs. All-contains (Contains es) fs f (every fs closed) in_fs) s))
     (All-contains (λ x. (x < length n.edges) × (IsHullNumber n x ⊎ IsSupported n fs x)) fs e closed has).1
 
 -- An edge that is no hull edge is dead, where each of its locally minimal pairs has a dead side.
-pub dead-if-broken : (n : NetworkParts) (seen : List ℕ) (e : ℕ) → ¬ IsHullNumber n e → IsBroken n seen e → ((f : ℕ) → Contains seen f → IsDead n f) → IsDead n e
-dead-if-broken n seen e inner broken dead fs closed has =
+pub dead_if_broken : (n : NetworkParts) (seen : List ℕ) (e : ℕ) → ¬ IsHullNumber n e → IsBroken n seen e → ((f : ℕ) → Contains seen f → IsDead n f) → IsDead n e
+dead_if_broken n seen e inner broken dead fs closed has =
     ⊎_elim
     (λ (h : IsHullNumber n e). inner h)
     (λ (s : IsSupported n fs e). let b = broken s.l s.r s.pair in dead b.1 (b.0, b.2, b.3) fs closed (s.others b.1 b.4))
     (All-contains (λ x. (x < length n.edges) × (IsHullNumber n x ⊎ IsSupported n fs x)) fs e closed has).1
 
 -- edges with the same members as the live ones are the live ones
-pub live-same : (n : NetworkParts) (es fs : List ℕ) → ((e : ℕ) → Contains es e → Contains fs e) → ((e : ℕ) → Contains fs e → Contains es e) → AreLive n es → AreLive n fs
-live-same n es fs to back live =
+pub live_same : (n : NetworkParts) (es fs : List ℕ) → ((e : ℕ) → Contains es e → Contains fs e) → ((e : ℕ) → Contains fs e → Contains es e) → AreLive n es → AreLive n fs
+live_same n es fs to back live =
     record {
       closed = all-from-members (λ x. (x < length n.edges) × (IsHullNumber n x ⊎ IsSupported n fs x)) fs
           (λ e has. let c = All-contains (λ x. (x < length n.edges) × (IsHullNumber n x ⊎ IsSupported n es x)) es e live.closed (back e has) in
@@ -44,12 +44,12 @@ live-same n es fs to back live =
     }
 
 -- the live edges are the same in each list of them
-pub live-once : (n : NetworkParts) (es fs : List ℕ) → AreLive n es → AreLive n fs → (e : ℕ) → Contains es e → Contains fs e
-live-once n es fs one other e has = All-contains (Contains fs) es e (other.greatest es one.closed) has
+pub live_once : (n : NetworkParts) (es fs : List ℕ) → AreLive n es → AreLive n fs → (e : ℕ) → Contains es e → Contains fs e
+live_once n es fs one other e has = All-contains (Contains fs) es e (other.greatest es one.closed) has
 
 -- a hull edge alone is closed
-pub hull-closed : (n : NetworkParts) (e : ℕ) → e < length n.edges → IsHullNumber n e → AreClosed n (e ∷ [])
-hull-closed n e e_in hull =
+pub hull_closed : (n : NetworkParts) (e : ℕ) → e < length n.edges → IsHullNumber n e → AreClosed n (e ∷ [])
+hull_closed n e e_in hull =
     all-from-members (λ x. (x < length n.edges) × (IsHullNumber n x ⊎ IsSupported n (e ∷ []) x)) (e ∷ [])
     (λ x has. ⊎_elim
     (λ (is : e ≡ x). (subst (λ (y : ℕ). y < length n.edges) is e_in, inl (subst (IsHullNumber n) is hull)))
@@ -57,15 +57,15 @@ hull-closed n e e_in hull =
     (contains-cases e x [] has))
 
 -- so it is not dead
-pub hull-not-dead : (n : NetworkParts) (e : ℕ) → e < length n.edges → IsHullNumber n e → ¬ IsDead n e
-hull-not-dead n e e_in hull dead = dead (e ∷ []) (hull-closed n e e_in hull) (contains-here e [])
+pub hull_not_dead : (n : NetworkParts) (e : ℕ) → e < length n.edges → IsHullNumber n e → ¬ IsDead n e
+hull_not_dead n e e_in hull dead = dead (e ∷ []) (hull_closed n e e_in hull) (contains-here e [])
 
 -- closed edges that have every closed one are the live ones
-pub live-if-closed : (n : NetworkParts) (es : List ℕ) → AreClosed n es → ((fs : List ℕ) → AreClosed n fs → All (Contains es) fs) → AreLive n es
-live-if-closed n es closed every =
+pub live_if_closed : (n : NetworkParts) (es : List ℕ) → AreClosed n es → ((fs : List ℕ) → AreClosed n fs → All (Contains es) fs) → AreLive n es
+live_if_closed n es closed every =
     record {
       closed = closed;
-      hull_edges = λ e e_in hull. All-contains (Contains es) (e ∷ []) e (every (e ∷ []) (hull-closed n e e_in hull)) (contains-here e []);
+      hull_edges = λ e e_in hull. All-contains (Contains es) (e ∷ []) e (every (e ∷ []) (hull_closed n e e_in hull)) (contains-here e []);
       greatest = every;
     }
 

@@ -11,11 +11,11 @@ use Rattle.exact_predicates.specs.Triangulation.{IsTriangulation, edges}
 use Rattle.lmt_network.specs.Bounds.{BoundIsBelow}
 use Rattle.lmt_network.specs.FlipMinimal.{IsEdgeOf}
 use Rattle.lmt_network.specs.Prices.{ArePrices, Priced, anchors_of, find_priced, is_on_hull, unpriced}
-use Rattle.lmt_network.proofs.Anchors.{edge-counted, ends, entry-once, hull-once, up}
+use Rattle.lmt_network.proofs.Anchors.{edge_counted, ends, entry-once, hull-once, up}
 use Rattle.lmt_network.proofs.CountedSums.{AreCovered, count, sum-covered}
 use Rattle.lmt_network.proofs.Entries.{IsEntry, find_priced-cases, find_priced-own}
 use Rattle.lmt_network.proofs.IntSums.{int_sum_by-map, int_sum_by-same}
-use Rattle.lmt_network.proofs.Slacks.{anchors-below}
+use Rattle.lmt_network.proofs.Slacks.{anchors_below}
 
 -- the anchors of an edge by its ends
 abbrev anchors_at : List ℕ → List Priced → ℕ × ℕ → ℤ
@@ -90,16 +90,16 @@ covered ps hull anchored prices tris are h t each =
     there x y c has =
         let edge = All-contains (IsEdgeOf hull tris) anchored c.p.edge each has in
         subst (λ b. 1 ≤ count (map up (edges hull tris)) x b) c.entry.b_is
-        (subst (λ a. 1 ≤ count (map up (edges hull tris)) a c.p.edge.b) c.entry.a_is (edge-counted hull tris c.p.edge edge))
+        (subst (λ a. 1 ≤ count (map up (edges hull tris)) a c.p.edge.b) c.entry.a_is (edge_counted hull tris c.p.edge edge))
 
-pub below-law : BoundIsBelow
-below-law ps hull anchored prices tris are feasible h t live each =
+pub below_law : BoundIsBelow
+below_law ps hull anchored prices tris are feasible h t live each =
     let es = edges hull tris in
     let a = anchors_at hull prices in
     omega (
       arith,
       ints,
-      anchors-below ps hull prices tris feasible h t live,
+      anchors_below ps hull prices tris feasible h t live,
       sum-covered a (map ends prices) (map up es) (covered ps hull anchored prices tris are h t each),
       int_sum_by-map a up es,
       int_sum_by-map a ends prices,

@@ -13,8 +13,8 @@ use Rattle.lmt_network.specs.Network.{NetworkParts, edge_at, tri_at}
 use Rattle.lmt_network.specs.Numbers.{HasSide, IsMinimalPair}
 
 -- the third corner of a triangle on a side is one
-pub corner-once : (t : Tri) (u v w x : ℕ) → HasCorners t u v w → HasCorners t u v x → w ≡ x
-corner-once t u v w x h k =
+pub corner_once : (t : Tri) (u v w x : ℕ) → HasCorners t u v w → HasCorners t u v x → w ≡ x
+corner_once t u v w x h k =
     let ab = t.below_b in let ac = t.below_c in let bc = t.apart in
     ⊎_elim
     (λ f. ⊎_elim (λ g. sym f.2 ∙ g.2) (λ o. ⊎_elim (λ g. absurd (omega (arith, f.0, g.0))) (λ g. absurd (omega (arith, f.0, g.0))) o) k)
@@ -25,9 +25,9 @@ corner-once t u v w x h k =
     h
 
 -- the corners of an empty triangle from any of them on
-pub turned-empty : (ps : List Point) (t : Tri) (u v w : ℕ) → IsEmpty ps t → HasCorners t u v w
+pub turned_empty : (ps : List Point) (t : Tri) (u v w : ℕ) → IsEmpty ps t → HasCorners t u v w
     → (w < length ps) × (pos 0 <ℤ orient (point_at ps u) (point_at ps v) (point_at ps w))
-turned-empty ps t u v w h k =
+turned_empty ps t u v w h k =
     let P : ℕ → ℕ → ℕ → Type 0 = λ x y z. (z < length ps) × (pos 0 <ℤ orient (point_at ps x) (point_at ps y) (point_at ps z)) in
     let a = point_at ps t.a in let b = point_at ps t.b in let c = point_at ps t.c in
     ⊎_elim
@@ -49,9 +49,9 @@ pub record IsPairOf (n : NetworkParts) (e l r : ℕ) (edge : Edge) (left right :
   pub b_is : HasCorners right edge.b edge.a b
 
 -- a pair is minimal exactly where it is between its apexes
-pub pair-is : (n : NetworkParts) (e l r : ℕ) (edge : Edge) (left right : Tri) (a b : ℕ) → IsPairOf n e l r edge left right a b
+pub pair_is : (n : NetworkParts) (e l r : ℕ) (edge : Edge) (left right : Tri) (a b : ℕ) → IsPairOf n e l r edge left right a b
     → IsMinimalBetween n.points edge.a edge.b a b ↔ IsMinimalPair n e l r
-pair-is n e l r edge left right a b h =
+pair_is n e l r edge left right a b h =
     let a_is : HasCorners (tri_at n l) (edge_at n e).a (edge_at n e).b a =
     subst (λ (t : Tri). HasCorners t (edge_at n e).a (edge_at n e).b a) h.left_is (subst (λ (x : Edge). HasCorners left x.a x.b a) h.edge_is h.a_is) in
     let b_is : HasCorners (tri_at n r) (edge_at n e).b (edge_at n e).a b =
@@ -66,8 +66,8 @@ pair-is n e l r edge left right a b h =
         minimal = subst (λ (x : Edge). IsMinimalBetween n.points x.a x.b a b) h.edge_is minimal;
       },
       λ pair.
-          let same_a = corner-once (tri_at n l) (edge_at n e).a (edge_at n e).b pair.a a pair.left_is a_is in
-          let same_b = corner-once (tri_at n r) (edge_at n e).b (edge_at n e).a pair.b b pair.right_is b_is in
+          let same_a = corner_once (tri_at n l) (edge_at n e).a (edge_at n e).b pair.a a pair.left_is a_is in
+          let same_b = corner_once (tri_at n r) (edge_at n e).b (edge_at n e).a pair.b b pair.right_is b_is in
           subst (λ (x : Edge). IsMinimalBetween n.points x.a x.b a b) (sym h.edge_is)
           (subst (λ (x : ℕ). IsMinimalBetween n.points (edge_at n e).a (edge_at n e).b x b) same_a
           (subst (λ (y : ℕ). IsMinimalBetween n.points (edge_at n e).a (edge_at n e).b pair.a y) same_b pair.minimal)),
@@ -77,8 +77,8 @@ pair-is n e l r edge left right a b h =
 abbrev Minimal : Point → Point → Point → Point → Type 0
 Minimal p q x y = (¬ Crosses p q x y) ⊎ (d2 p q ≤ d2 x y)
 
-same-points : {p q x y p' q' x' y' : Point} → p ≡ p' → q ≡ q' → x ≡ x' → y ≡ y' → Minimal p q x y → Minimal p' q' x' y'
-same-points {p} {q} {x} {y} {p'} {q'} {x'} {y'} ep eq ex ey m =
+same_points : {p q x y p' q' x' y' : Point} → p ≡ p' → q ≡ q' → x ≡ x' → y ≡ y' → Minimal p q x y → Minimal p' q' x' y'
+same_points {p} {q} {x} {y} {p'} {q'} {x'} {y'} ep eq ex ey m =
     subst (λ (z : Point). Minimal z q' x' y') ep
     (subst (λ (z : Point). Minimal p z x' y') eq
     (subst (λ (z : Point). Minimal p q z y') ex
@@ -92,28 +92,28 @@ pub record HasPoints (ps : List Point) (u v a b : ℕ) (p q x y : Point) : Type 
   pub y_is : y ≡ point_at ps b
 
 -- where the other diagonal is not shorter the pair is minimal
-pub short-minimal : (n : NetworkParts) (e l r : ℕ) (edge : Edge) (left right : Tri) (a b : ℕ) (p q x y : Point) → IsPairOf n e l r edge left right a b
+pub short_minimal : (n : NetworkParts) (e l r : ℕ) (edge : Edge) (left right : Tri) (a b : ℕ) (p q x y : Point) → IsPairOf n e l r edge left right a b
     → HasPoints n.points edge.a edge.b a b p q x y → d2 p q ≤ d2 x y → IsMinimalPair n e l r
-short-minimal n e l r edge left right a b p q x y pair at low =
-    (pair-is n e l r edge left right a b pair).0 (same-points at.p_is at.q_is at.x_is at.y_is (inr low))
+short_minimal n e l r edge left right a b p q x y pair at low =
+    (pair_is n e l r edge left right a b pair).0 (same_points at.p_is at.q_is at.x_is at.y_is (inr low))
 
 -- else the test of convexity tells
-pub long-minimal : (n : NetworkParts) (e l r : ℕ) (edge : Edge) (left right : Tri) (a b : ℕ) (p q x y : Point) (convex : Bool) → IsPairOf n e l r edge left right a b
+pub long_minimal : (n : NetworkParts) (e l r : ℕ) (edge : Edge) (left right : Tri) (a b : ℕ) (p q x y : Point) (convex : Bool) → IsPairOf n e l r edge left right a b
     → HasPoints n.points edge.a edge.b a b p q x y → (IsTrue convex ↔ Crosses p q x y) → d2 x y < d2 p q → IsTrue (not convex) ↔ IsMinimalPair n e l r
-long-minimal n e l r edge left right a b p q x y convex pair at h long =
-    let is = pair-is n e l r edge left right a b pair in (
-      λ flat. is.0 (same-points at.p_is at.q_is at.x_is at.y_is (inl (λ crosses. absurd (false≢true (ap not (sym (h.1 crosses)) ∙ flat))))),
+long_minimal n e l r edge left right a b p q x y convex pair at h long =
+    let is = pair_is n e l r edge left right a b pair in (
+      λ flat. is.0 (same_points at.p_is at.q_is at.x_is at.y_is (inl (λ crosses. absurd (false≢true (ap not (sym (h.1 crosses)) ∙ flat))))),
       λ minimal. ⊎_elim
           (λ none. ⊎_elim (λ bent. absurd (none (h.0 bent))) (λ flat. ap not flat) (cases_Bool convex))
           (λ low. absurd (omega (arith, low, long)))
-          (same-points (sym at.p_is) (sym at.q_is) (sym at.x_is) (sym at.y_is) (is.1 minimal)),
+          (same_points (sym at.p_is) (sym at.q_is) (sym at.x_is) (sym at.y_is) (is.1 minimal)),
     )
 
 -- a triangle's side by equal values
-pub side-left : (n : NetworkParts) (e l : ℕ) (edge : Edge) (t : Tri) → edge ≡ edge_at n e → t ≡ tri_at n l → HasSide (tri_at n l) (edge_at n e).a (edge_at n e).b → HasSide t edge.a edge.b
-side-left n e l edge t edge_is t_is h =
+pub side_left : (n : NetworkParts) (e l : ℕ) (edge : Edge) (t : Tri) → edge ≡ edge_at n e → t ≡ tri_at n l → HasSide (tri_at n l) (edge_at n e).a (edge_at n e).b → HasSide t edge.a edge.b
+side_left n e l edge t edge_is t_is h =
     subst (λ (x : Edge). HasSide t x.a x.b) (sym edge_is) (subst (λ (x : Tri). HasSide x (edge_at n e).a (edge_at n e).b) (sym t_is) h)
 
-pub side-right : (n : NetworkParts) (e r : ℕ) (edge : Edge) (t : Tri) → edge ≡ edge_at n e → t ≡ tri_at n r → HasSide (tri_at n r) (edge_at n e).b (edge_at n e).a → HasSide t edge.b edge.a
-side-right n e r edge t edge_is t_is h =
+pub side_right : (n : NetworkParts) (e r : ℕ) (edge : Edge) (t : Tri) → edge ≡ edge_at n e → t ≡ tri_at n r → HasSide (tri_at n r) (edge_at n e).b (edge_at n e).a → HasSide t edge.b edge.a
+side_right n e r edge t edge_is t_is h =
     subst (λ (x : Edge). HasSide t x.b x.a) (sym edge_is) (subst (λ (x : Tri). HasSide x (edge_at n e).b (edge_at n e).a) (sym t_is) h)

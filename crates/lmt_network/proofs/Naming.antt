@@ -13,7 +13,7 @@ use Rattle.lmt_network.specs.Live.{IsHullEdge, HasSupport, IsClosed, IsLive}
 use Rattle.lmt_network.specs.Flags.{live_numbers, live_edges}
 use Rattle.lmt_network.specs.Network.{NetworkParts, IsNetwork, edge_at, tri_at}
 use Rattle.lmt_network.specs.Numbers.{IsHullNumber, IsNumberOf, IsSideOf, IsSupported, AreClosed, AreLive}
-use Rattle.lmt_network.proofs.Picked.{all-from-members, contains-here, contains-later, contains-cases, contains-nil, picked_in, picked_from, AllPairs-picked, flag_in, live-from_flag, flag-from_live}
+use Rattle.lmt_network.proofs.Picked.{all-from-members, contains-here, contains-later, contains-cases, contains-nil, picked_in, picked_from, AllPairs-picked, flag_in, live_from_flag, flag_from_live}
 
 -- fs are the edges with the numbers es
 pub record AreNamed (n : NetworkParts) (es : List ℕ) (fs : List Edge) : Type 0 where
@@ -23,8 +23,8 @@ pub record AreNamed (n : NetworkParts) (es : List ℕ) (fs : List Edge) : Type 0
   pub known : (f : Edge) → Contains fs f → Contains n.edges f
 
 -- what a list has, read at its place
-pub read-member : {X : Type 0} (xs : List X) (x d : X) → (h : Contains xs x) → get_or xs h.0 d ≡ x
-read-member xs x d (k, k_in, at_k) = get_or_default xs k d x k_in ∙ at_k
+pub read_member : {X : Type 0} (xs : List X) (x d : X) → (h : Contains xs x) → get_or xs h.0 d ≡ x
+read_member xs x d (k, k_in, at_k) = get_or_default xs k d x k_in ∙ at_k
 
 -- no edge precedes itself
 pub EdgePrecedes-irreflexive : (e : Edge) → ¬ EdgePrecedes e e
@@ -42,8 +42,8 @@ edge_at-once n i j up i_in j_in same =
     (cases_lt i j)
 
 -- the numbers of edges of the network
-pub numbers-of : (n : NetworkParts) (fs : List Edge) → AllPairs EdgePrecedes n.edges → All (Contains n.edges) fs → (es : List ℕ) × AreNamed n es fs
-numbers-of n [] up known = (
+pub numbers_of : (n : NetworkParts) (fs : List Edge) → AllPairs EdgePrecedes n.edges → All (Contains n.edges) fs → (es : List ℕ) × AreNamed n es fs
+numbers_of n [] up known = (
   [],
   record {
     in_range = λ e h. absurd (contains-nil e h);
@@ -52,10 +52,10 @@ numbers-of n [] up known = (
     known = λ f h. absurd (contains-nil f h);
   },
 )
-numbers-of n (f ∷ fs) up known =
+numbers_of n (f ∷ fs) up known =
     let first = All-head (Contains n.edges) f fs known in
-    let rest = numbers-of n fs up (All-tail (Contains n.edges) f fs known) in
-    let is : edge_at n first.0 ≡ f = read-member n.edges f _ first in (
+    let rest = numbers_of n fs up (All-tail (Contains n.edges) f fs known) in
+    let is : edge_at n first.0 ≡ f = read_member n.edges f _ first in (
       first.0 ∷ rest.0,
       record {
         in_range = λ e h. ⊎_elim (λ (p : first.0 ≡ e). subst (λ (x : ℕ). x < length n.edges) p first.1) (λ (t : Contains rest.0 e). rest.1.in_range e t) (contains-cases first.0 e rest.0 h);
@@ -72,8 +72,8 @@ numbers-of n (f ∷ fs) up known =
     )
 
 -- the number of a triangle over fewer edges
-pub tri-number : (n : NetworkParts) (fs : List Edge) (t : Tri) → IsNetwork n → ((f : Edge) → Contains fs f → Contains n.edges f) → IsEmptyOver n.points fs t → Contains n.tris t
-tri-number n fs t net known over =
+pub tri_number : (n : NetworkParts) (fs : List Edge) (t : Tri) → IsNetwork n → ((f : Edge) → Contains fs f → Contains n.edges f) → IsEmptyOver n.points fs t → Contains n.tris t
+tri_number n fs t net known over =
     net.tris_are.all t (record {
       empty = over.empty;
       ab = wider t.a t.b over.ab;
@@ -85,8 +85,8 @@ tri-number n fs t net known over =
     wider u v (k, e, k_in, at_k, h) = HasEdge-Contains n.edges e u v h (known e (k, k_in, at_k))
 
 -- a side of a triangle over named edges has its number among theirs
-pub side-named : (n : NetworkParts) (es : List ℕ) (fs : List Edge) (t f : ℕ) → AreNamed n es fs → IsEmptyOver n.points fs (tri_at n t) → IsSideOf n t f → Contains es f
-side-named n es fs t f named over h =
+pub side_named : (n : NetworkParts) (es : List ℕ) (fs : List Edge) (t f : ℕ) → AreNamed n es fs → IsEmptyOver n.points fs (tri_at n t) → IsSideOf n t f → Contains es f
+side_named n es fs t f named over h =
     ⊎_elim
     (λ k. at (tri_at n t).a (tri_at n t).b over.ab k)
     (λ m. ⊎_elim (λ k. at (tri_at n t).b (tri_at n t).c over.bc k) (λ k. at (tri_at n t).c (tri_at n t).a over.ca k) m)
@@ -96,12 +96,12 @@ side-named n es fs t f named over h =
     at u v has k = named.back f k.0 (Contains-HasEdge fs (edge_at n f) u v k.1 has)
 
 -- a supported edge is supported by number
-support-number : (n : NetworkParts) (es : List ℕ) (fs : List Edge) (e : ℕ) → IsNetwork n → AreNamed n es fs → HasSupport n.points fs (edge_at n e) → IsSupported n es e
-support-number n es fs e net named s =
-    let left = tri-number n fs s.left net named.known s.left_over in
-    let right = tri-number n fs s.right net named.known s.right_over in
-    let left_is : tri_at n left.0 ≡ s.left = read-member n.tris s.left _ left in
-    let right_is : tri_at n right.0 ≡ s.right = read-member n.tris s.right _ right in
+support_number : (n : NetworkParts) (es : List ℕ) (fs : List Edge) (e : ℕ) → IsNetwork n → AreNamed n es fs → HasSupport n.points fs (edge_at n e) → IsSupported n es e
+support_number n es fs e net named s =
+    let left = tri_number n fs s.left net named.known s.left_over in
+    let right = tri_number n fs s.right net named.known s.right_over in
+    let left_is : tri_at n left.0 ≡ s.left = read_member n.tris s.left _ left in
+    let right_is : tri_at n right.0 ≡ s.right = read_member n.tris s.right _ right in
     record {
       l = left.0;
       r = right.0;
@@ -115,27 +115,27 @@ support-number n es fs e net named s =
         minimal = s.minimal;
       };
       others = λ f h. ⊎_elim
-          (λ k. side-named n es fs left.0 f named (subst (IsEmptyOver n.points fs) (sym left_is) s.left_over) k)
-          (λ k. side-named n es fs right.0 f named (subst (IsEmptyOver n.points fs) (sym right_is) s.right_over) k)
+          (λ k. side_named n es fs left.0 f named (subst (IsEmptyOver n.points fs) (sym left_is) s.left_over) k)
+          (λ k. side_named n es fs right.0 f named (subst (IsEmptyOver n.points fs) (sym right_is) s.right_over) k)
           h.1;
     }
 
 -- a closed list is closed by number
-pub closed-numbers : (n : NetworkParts) (diamond : Diamond) (es : List ℕ) (fs : List Edge) → IsNetwork n → AreNamed n es fs → IsClosed n.points n.hull diamond fs → AreClosed n es
-closed-numbers n diamond es fs net named closed =
+pub closed_numbers : (n : NetworkParts) (diamond : Diamond) (es : List ℕ) (fs : List Edge) → IsNetwork n → AreNamed n es fs → IsClosed n.points n.hull diamond fs → AreClosed n es
+closed_numbers n diamond es fs net named closed =
     all-from-members (λ x. (x < length n.edges) × (IsHullNumber n x ⊎ IsSupported n es x)) es
     (λ e has. (
       named.in_range e has,
       ⊎_elim
           (λ (h : IsHullEdge n.hull (edge_at n e)). inl h)
-          (λ (s : HasSupport n.points fs (edge_at n e)). inr (support-number n es fs e net named s))
+          (λ (s : HasSupport n.points fs (edge_at n e)). inr (support_number n es fs e net named s))
           (All-contains (λ x. IsHullEdge n.hull x ⊎ HasSupport n.points fs x) fs (edge_at n e) closed.supported (named.there e has)),
     ))
 
 -- a triangle whose sides, but for one that is among the named edges, have their numbers among theirs
-pub over-named : (n : NetworkParts) (es : List ℕ) (fs : List Edge) (e t : ℕ) → IsNetwork n → AreNamed n es fs → t < length n.tris → Contains es e
+pub over_named : (n : NetworkParts) (es : List ℕ) (fs : List Edge) (e t : ℕ) → IsNetwork n → AreNamed n es fs → t < length n.tris → Contains es e
     → ((f : ℕ) → f ≢ e → IsSideOf n t f → Contains es f) → IsEmptyOver n.points fs (tri_at n t)
-over-named n es fs e t net named t_in has others =
+over_named n es fs e t net named t_in has others =
     let over : IsEmptyOver n.points n.edges (tri_at n t) = net.tris_are.each t _ t_in in
     record {
       empty = over.empty;
@@ -161,21 +161,21 @@ number-support n es fs e net named has s =
       b = s.pair.b;
       left_is = s.pair.left_is;
       right_is = s.pair.right_is;
-      left_over = over-named n es fs e s.l net named s.pair.l_in has (λ f other side. s.others f (other, inl side));
-      right_over = over-named n es fs e s.r net named s.pair.r_in has (λ f other side. s.others f (other, inr side));
+      left_over = over_named n es fs e s.l net named s.pair.l_in has (λ f other side. s.others f (other, inl side));
+      right_over = over_named n es fs e s.r net named s.pair.r_in has (λ f other side. s.others f (other, inr side));
       minimal = s.pair.minimal;
     }
 
 -- the edges of closed numbers, ascending, are a closed list
-pub closed-edges : (n : NetworkParts) (diamond : Diamond) (es : List ℕ) (fs : List Edge) → IsNetwork n → AreCandidates n.points n.hull diamond n.edges → AreNamed n es fs → AllPairs EdgePrecedes fs
+pub closed_edges : (n : NetworkParts) (diamond : Diamond) (es : List ℕ) (fs : List Edge) → IsNetwork n → AreCandidates n.points n.hull diamond n.edges → AreNamed n es fs → AllPairs EdgePrecedes fs
     → AreClosed n es → IsClosed n.points n.hull diamond fs
-closed-edges n diamond es fs net candidates named up closed =
+closed_edges n diamond es fs net candidates named up closed =
     record {
       ascending = up;
       candidates = all-from-members (IsCandidate n.points n.hull diamond) fs (λ f has. All-contains (IsCandidate n.points n.hull diamond) n.edges f candidates.each (named.known f has));
       supported = all-from-members (λ x. IsHullEdge n.hull x ⊎ HasSupport n.points fs x) fs (λ f has.
           let k = named.known f has in
-          let is : edge_at n k.0 ≡ f = read-member n.edges f _ k in
+          let is : edge_at n k.0 ≡ f = read_member n.edges f _ k in
           let has_k : Contains es k.0 = named.back k.0 k.1 (subst (Contains fs) (sym is) has) in
           subst (λ (x : Edge). IsHullEdge n.hull x ⊎ HasSupport n.points fs x) is (⊎_elim
           (λ (h : IsHullNumber n k.0). inl h)
@@ -188,31 +188,31 @@ pub live-edges : (n : NetworkParts) (diamond : Diamond) (es : List ℕ) (fs : Li
     → AreLive n es → IsLive n.points n.hull diamond fs
 live-edges n diamond es fs net candidates named up live =
     record {
-      closed = closed-edges n diamond es fs net candidates named up live.closed;
+      closed = closed_edges n diamond es fs net candidates named up live.closed;
       hull_edges = λ f hull.
           let k = net.hull_edges f hull in
-          let is : edge_at n k.0 ≡ f = read-member n.edges f _ k in
+          let is : edge_at n k.0 ≡ f = read_member n.edges f _ k in
           subst (Contains fs) is (named.there k.0 (live.hull_edges k.0 k.1 (subst (IsHullEdge n.hull) (sym is) hull)));
       greatest = λ gs closed.
           let known = all-from-members (Contains n.edges) gs (λ g has. candidates.all g (All-contains (IsCandidate n.points n.hull diamond) gs g closed.candidates has)) in
-          let numbers = numbers-of n gs net.ascending known in
-          let every = live.greatest numbers.0 (closed-numbers n diamond numbers.0 gs net numbers.1 closed) in
+          let numbers = numbers_of n gs net.ascending known in
+          let every = live.greatest numbers.0 (closed_numbers n diamond numbers.0 gs net numbers.1 closed) in
           all-from-members (Contains fs) gs (λ g has.
           let k = All-contains (Contains n.edges) gs g known has in
-          let is : edge_at n k.0 ≡ g = read-member n.edges g _ k in
+          let is : edge_at n k.0 ≡ g = read_member n.edges g _ k in
           subst (Contains fs) is (named.there k.0 (All-contains (Contains es) numbers.0 k.0 every (numbers.1.back k.0 k.1 (subst (Contains gs) (sym is) has)))));
     }
 
 -- the live edges are named by the live numbers
-pub flags-named : (n : NetworkParts) (flags : List Bool) → AllPairs EdgePrecedes n.edges → length flags ≡ length n.edges → AreNamed n (live_numbers flags) (live_edges n flags)
-flags-named n flags up one_each =
+pub flags_named : (n : NetworkParts) (flags : List Bool) → AllPairs EdgePrecedes n.edges → length flags ≡ length n.edges → AreNamed n (live_numbers flags) (live_edges n flags)
+flags_named n flags up one_each =
     record {
-      in_range = λ e has. let l = flag_in flags e (flag-from_live flags e has) in omega arith;
-      there = λ e has. let flag = flag-from_live flags e has in let l = flag_in flags e flag in picked_in flags n.edges e _ (omega arith) flag;
+      in_range = λ e has. let l = flag_in flags e (flag_from_live flags e has) in omega arith;
+      there = λ e has. let flag = flag_from_live flags e has in let l = flag_in flags e flag in picked_in flags n.edges e _ (omega arith) flag;
       back = λ e e_in has.
           let r = picked_from flags n.edges (edge_at n e) has in
           let is : edge_at n r.0 ≡ edge_at n e = get_or_default n.edges r.0 _ (edge_at n e) r.1 ∙ r.3 in
-          live-from_flag flags e (subst (λ (x : ℕ). get_or flags x false ≡ true) (edge_at-once n r.0 e up r.1 e_in is) r.2);
+          live_from_flag flags e (subst (λ (x : ℕ). get_or flags x false ≡ true) (edge_at-once n r.0 e up r.1 e_in is) r.2);
       known = λ f has. let r = picked_from flags n.edges f has in (r.0, r.1, r.3);
     }
 
@@ -220,5 +220,5 @@ flags-named n flags up one_each =
 pub live_edges-live : (n : NetworkParts) (diamond : Diamond) (flags : List Bool) → IsNetwork n → length flags ≡ length n.edges → AreCandidates n.points n.hull diamond n.edges
     → AreLive n (live_numbers flags) → IsLive n.points n.hull diamond (live_edges n flags)
 live_edges-live n diamond flags net one_each candidates live =
-    live-edges n diamond (live_numbers flags) (live_edges n flags) net candidates (flags-named n flags net.ascending one_each)
+    live-edges n diamond (live_numbers flags) (live_edges n flags) net candidates (flags_named n flags net.ascending one_each)
     (AllPairs-picked EdgePrecedes flags n.edges net.ascending) live

@@ -70,15 +70,15 @@ pub flag_in : (flags : List Bool) (e : ℕ) → get_or flags e false ≡ true �
 flag_in flags e h = ⊎_elim (λ l. l) (λ past. absurd (false≢true (sym (get_or_past flags e false past) ∙ h))) (cases_lt e (length flags))
 
 -- the live numbers are those whose flag is true
-pub live-from_flag : (flags : List Bool) (e : ℕ) → get_or flags e false ≡ true → Contains (live_numbers flags) e
-live-from_flag flags e h =
+pub live_from_flag : (flags : List Bool) (e : ℕ) → get_or flags e false ≡ true → Contains (live_numbers flags) e
+live_from_flag flags e h =
     let l = flag_in flags e h in
     let there : e < length (range_with_len 0 (length flags)) = omega (arith, length-range_with_len 0 (length flags)) in
     let is : get_or (range_with_len 0 (length flags)) e 0 ≡ e = omega (arith, get_or-range_with_len 0 (length flags) e 0 l) in
     subst (λ (x : ℕ). Contains (live_numbers flags) x) is (picked_in flags (range_with_len 0 (length flags)) e 0 there h)
 
-pub flag-from_live : (flags : List Bool) (e : ℕ) → Contains (live_numbers flags) e → get_or flags e false ≡ true
-flag-from_live flags e h =
+pub flag_from_live : (flags : List Bool) (e : ℕ) → Contains (live_numbers flags) e → get_or flags e false ≡ true
+flag_from_live flags e h =
     let r = picked_from flags (range_with_len 0 (length flags)) e h in
     let l : r.0 < length flags = omega (arith, r.1, length-range_with_len 0 (length flags)) in
     let is : r.0 ≡ e = omega (arith, get_or-range_with_len 0 (length flags) r.0 e l, r.3) in

@@ -5,11 +5,11 @@ use Rattle.std.proofs.lemmas.List.{get_or_default}
 use Rattle.lmt_network.specs.Network.{NetworkParts}
 use Rattle.lmt_network.specs.Flags.{live_numbers}
 use Rattle.lmt_network.specs.Numbers.{IsSideOf, IsSupported, IsSupportedWith}
-use Rattle.lmt_network.proofs.Picked.{live-from_flag}
+use Rattle.lmt_network.proofs.Picked.{live_from_flag}
 
 -- the member of a list of three
-three-cases : (xs : List ℕ) (f : ℕ) → length xs ≡ 3 → Contains xs f → (slice_index xs 0 ≡ f) ⊎ ((slice_index xs 1 ≡ f) ⊎ (slice_index xs 2 ≡ f))
-three-cases xs f three (k, k_in, at_k) =
+three_cases : (xs : List ℕ) (f : ℕ) → length xs ≡ 3 → Contains xs f → (slice_index xs 0 ≡ f) ⊎ ((slice_index xs 1 ≡ f) ⊎ (slice_index xs 2 ≡ f))
+three_cases xs f three (k, k_in, at_k) =
     let is : slice_index xs k ≡ f = get_or_default xs k 0 f k_in ∙ at_k in
     ⊎_elim
     (λ (e : k ≡ 0). inl (ap (slice_index xs) (sym e) ∙ is))
@@ -20,21 +20,21 @@ three-cases xs f three (k, k_in, at_k) =
     (cases_eq k 0)
 
 -- three live sides are all sides
-pub three-live : (n : NetworkParts) (flags : List Bool) (t : ℕ) (sides : List ℕ) → length sides ≡ 3 → ((f : ℕ) → IsSideOf n t f → Contains sides f)
+pub three_live : (n : NetworkParts) (flags : List Bool) (t : ℕ) (sides : List ℕ) → length sides ≡ 3 → ((f : ℕ) → IsSideOf n t f → Contains sides f)
     → slice_index_or flags (slice_index sides 0) false ≡ true → slice_index_or flags (slice_index sides 1) false ≡ true → slice_index_or flags (slice_index sides 2) false ≡ true
     → (f : ℕ) → IsSideOf n t f → Contains (live_numbers flags) f
-three-live n flags t sides three only x y z f h =
-    live-from_flag flags f (⊎_elim
+three_live n flags t sides three only x y z f h =
+    live_from_flag flags f (⊎_elim
     (λ (e : slice_index sides 0 ≡ f). ap (λ k. slice_index_or flags k false) (sym e) ∙ x)
     (λ m. ⊎_elim
     (λ (e : slice_index sides 1 ≡ f). ap (λ k. slice_index_or flags k false) (sym e) ∙ y)
     (λ (e : slice_index sides 2 ≡ f). ap (λ k. slice_index_or flags k false) (sym e) ∙ z)
     m)
-    (three-cases sides f three (only f h)))
+    (three_cases sides f three (only f h)))
 
 -- a supported edge, by its two triangles
-pub support-of-pair : (n : NetworkParts) (es : List ℕ) (e l : ℕ) → ((f : ℕ) → IsSideOf n l f → Contains es f) → IsSupportedWith n es e l → IsSupported n es e
-support-of-pair n es e l sides s =
+pub support_of_pair : (n : NetworkParts) (es : List ℕ) (e l : ℕ) → ((f : ℕ) → IsSideOf n l f → Contains es f) → IsSupportedWith n es e l → IsSupported n es e
+support_of_pair n es e l sides s =
     record {
       l = l;
       r = s.r;
@@ -43,9 +43,9 @@ support-of-pair n es e l sides s =
     }
 
 -- the triangles of a support have all sides among edges that have the edge itself
-pub sides-of-support : (n : NetworkParts) (es : List ℕ) (e : ℕ) → Contains es e → (s : IsSupported n es e)
+pub sides-of_support : (n : NetworkParts) (es : List ℕ) (e : ℕ) → Contains es e → (s : IsSupported n es e)
     → ((f : ℕ) → IsSideOf n s.l f → Contains es f) × ((f : ℕ) → IsSideOf n s.r f → Contains es f)
-sides-of-support n es e has s =
+sides-of_support n es e has s =
     (λ f h. at f (inl h), λ f h. at f (inr h))
   where
     at : (f : ℕ) → IsSideOf n s.l f ⊎ IsSideOf n s.r f → Contains es f

@@ -13,8 +13,8 @@ use Rattle.exact_predicates.proofs.HullPairs.{pair_none, pair_once}
 use Rattle.exact_predicates.proofs.Pairs.{hit_turned, is_inner_decides}
 use Rattle.lmt_network.specs.Prices.{Priced, int_sum_by, share, slack}
 use Rattle.lmt_network.proofs.CountedSums.{count, sum-same_counts}
-use Rattle.lmt_network.proofs.Filters.{count-to, side-from}
-use Rattle.lmt_network.proofs.FlipMinimal.{pair-or-not}
+use Rattle.lmt_network.proofs.Filters.{count_to, side_from}
+use Rattle.lmt_network.proofs.FlipMinimal.{pair_or_not}
 use Rattle.lmt_network.proofs.IntSums.{int_sum_by-append, int_sum_by-cons, int_sum_by-map, int_sum_by-plus}
 
 -- the inner sides that go up
@@ -25,10 +25,10 @@ inner_sides hull tris = filter (is_inner hull) (flat_map sides tris)
 abbrev pub turned : ℕ × ℕ → ℕ × ℕ
 turned s = (s.1, s.0)
 
-count-turned : (xs : List (ℕ × ℕ)) (x y : ℕ) → count (map turned xs) x y ≡ count xs y x
-count-turned [] x y = refl
-count-turned (s ∷ xs) x y =
-    omega (arith, sum_by-cons (hit x y) (s.1, s.0) (map turned xs), sum_by-cons (hit y x) s xs, count-turned xs x y, hit_turned y x s.0 s.1)
+count_turned : (xs : List (ℕ × ℕ)) (x y : ℕ) → count (map turned xs) x y ≡ count xs y x
+count_turned [] x y = refl
+count_turned (s ∷ xs) x y =
+    omega (arith, sum_by-cons (hit x y) (s.1, s.0) (map turned xs), sum_by-cons (hit y x) s xs, count_turned xs x y, hit_turned y x s.0 s.1)
 
 -- no side ends where it begins
 no_loops : (tris : List Tri) (x : ℕ) → side_count tris x x ≡ 0
@@ -36,7 +36,7 @@ no_loops tris x =
     ⊎_elim
     (λ l. omega arith)
     (λ l.
-    let (k, t, k_in, at_k, side) = side-from tris x x (count-to (flat_map sides tris) x x l) in
+    let (k, t, k_in, at_k, side) = side_from tris x x (count_to (flat_map sides tris) x x l) in
     absurd (corners_differ t x x side.0 side.1 refl))
     (cases_lt (side_count tris x x) 1)
 
@@ -63,8 +63,8 @@ sides_counted ps hull tris x y h t =
     (λ (p : IsHullPair hull y x).
     omega (arith, forth, t.none_outside y x p, pair_none hull x y none, inner_none hull tris y x (not_inner hull y x (λ k. k.1 p))))
     (λ none_back. neither none none_back (cases_order x y))
-    (pair-or-not hull y x))
-    (pair-or-not hull x y)
+    (pair_or_not hull y x))
+    (pair_or_not hull x y)
   where
     neither : ¬ IsHullPair hull x y → ¬ IsHullPair hull y x → (x ≡ y) ⊎ ((x < y) ⊎ (y < x))
         → side_count tris x y ≡ count (ring_pairs hull) x y + (count (inner_sides hull tris) x y + count (inner_sides hull tris) y x)
@@ -102,7 +102,7 @@ sum-sides f ps hull tris h t =
       sides_counted ps hull tris x y h t,
       sum_by-append (hit x y) ring (inner ++ map turned inner),
       sum_by-append (hit x y) inner (map turned inner),
-      count-turned inner x y,
+      count_turned inner x y,
     ) in
     omega (
       arith,

@@ -14,8 +14,8 @@ use Rattle.length_enclosure.specs.Enclosure.{lo, weight}
 use Rattle.lmt_network.specs.Bounds.{HasEdgesIn}
 use Rattle.lmt_network.specs.Prices.{IsFeasible, Priced, anchors_of, int_sum_by, is_on_hull, priced, priced_edges, share, slack, weight_between}
 use Rattle.lmt_network.proofs.Entries.{anchors_of-is, is_on_hull-comm, is_on_hull_decides, priced-comm}
-use Rattle.lmt_network.proofs.Filters.{count-from, filter-from}
-use Rattle.lmt_network.proofs.FlipMinimal.{tri-over}
+use Rattle.lmt_network.proofs.Filters.{count_from, filter-from}
+use Rattle.lmt_network.proofs.FlipMinimal.{tri_over}
 use Rattle.lmt_network.proofs.IntSums.{int_sum_by-append, int_sum_by-not_negative, int_sum_by-plus, int_sum_by-pos, int_sum_by-same}
 use Rattle.lmt_network.proofs.Shares.{inner_sides, sum-sides, sum-slacks, turned}
 
@@ -79,12 +79,12 @@ share-both ps hull prices u v off l =
     )
 
 -- an inner side of a triangulation is not on the hull
-pub inner-off : (ps : List Point) (hull : List ℕ) (tris : List Tri) (u v : ℕ) → IsTriangulation ps hull tris → Contains (inner_sides hull tris) (u, v)
+pub inner_off : (ps : List Point) (hull : List ℕ) (tris : List Tri) (u v : ℕ) → IsTriangulation ps hull tris → Contains (inner_sides hull tris) (u, v)
     → (is_on_hull hull u v ≡ false) × (u < v)
-inner-off ps hull tris u v t h =
+inner_off ps hull tris u v t h =
     let kept = filter-from (is_inner hull) (flat_map sides tris) (u, v) h in
     let d = (is_inner_decides hull u v).0 kept.1 in
-    let once = count-from (flat_map sides tris) u v kept.0 in (
+    let once = count_from (flat_map sides tris) u v kept.0 in (
       ⊎_elim
           (λ on. ⊎_elim
           (λ p. absurd (d.1 p))
@@ -96,9 +96,9 @@ inner-off ps hull tris u v t h =
     )
 
 -- all slacks together
-pub slacks-given : (ps : List Point) (hull : List ℕ) (prices : List Priced) (tris : List Tri) → IsHull ps hull → IsTriangulation ps hull tris
+pub slacks_given : (ps : List Point) (hull : List ℕ) (prices : List Priced) (tris : List Tri) → IsHull ps hull → IsTriangulation ps hull tris
     → int_sum_by (slack ps hull prices) tris ≡ int_sum_by (given ps hull prices) (edges hull tris)
-slacks-given ps hull prices tris h t =
+slacks_given ps hull prices tris h t =
     let f : ℕ × ℕ → ℤ = λ s. share ps hull prices s.0 s.1 in
     let g = given ps hull prices in
     omega (
@@ -108,24 +108,24 @@ slacks-given ps hull prices tris h t =
       sum-sides f ps hull tris h t,
       int_sum_by-same f g (ring_pairs hull) (λ s m. share-hull ps hull prices s.0 s.1 ((is_on_hull_decides hull s.0 s.1).1 (inl m))),
       int_sum_by-same (λ s. f s +ℤ f (turned s)) g (inner_sides hull tris)
-          (λ s m. let off = inner-off ps hull tris s.0 s.1 t m in share-both ps hull prices s.0 s.1 off.0 off.1),
+          (λ s m. let off = inner_off ps hull tris s.0 s.1 t m in share-both ps hull prices s.0 s.1 off.0 off.1),
       int_sum_by-append g (ring_pairs hull) (inner_sides hull tris),
     )
 
 -- Where the triangles are live, the anchors of all edges are together at most the length.
-pub anchors-below : (ps : List Point) (hull : List ℕ) (prices : List Priced) (tris : List Tri) → IsFeasible ps hull prices
+pub anchors_below : (ps : List Point) (hull : List ℕ) (prices : List Priced) (tris : List Tri) → IsFeasible ps hull prices
     → IsHull ps hull → IsTriangulation ps hull tris → HasEdgesIn hull tris (priced_edges prices)
     → int_sum_by (λ s. anchors_of hull (priced prices s.0 s.1)) (edges hull tris) ≤ℤ pos (lo ps (edges hull tris))
-anchors-below ps hull prices tris feasible h t live =
+anchors_below ps hull prices tris feasible h t live =
     let es = edges hull tris in
     let a : ℕ × ℕ → ℤ = λ s. anchors_of hull (priced prices s.0 s.1) in
     let g = given ps hull prices in
-    let some = int_sum_by-not_negative (slack ps hull prices) tris (λ x m. feasible x (tri-over ps hull tris (priced_edges prices) x t live m)) in
+    let some = int_sum_by-not_negative (slack ps hull prices) tris (λ x m. feasible x (tri_over ps hull tris (priced_edges prices) x t live m)) in
     omega (
       arith,
       ints,
       some,
-      slacks-given ps hull prices tris h t,
+      slacks_given ps hull prices tris h t,
       int_sum_by-plus g a es,
       int_sum_by-same (λ s. g s +ℤ a s) (λ s. pos (weight ps s)) es (λ s m. omega (arith, ints)),
       int_sum_by-pos (weight ps) es,

@@ -19,17 +19,17 @@ use Rattle.price_ascent.specs.declared.entry.Entry.{Entry}
 use Rattle.price_ascent.specs.Belonging.{BelongTo, IsEntryOf}
 use Rattle.price_ascent.specs.Entries.{anchored_edges, entry, live_of, no_entry, prices_of, table_of}
 use Rattle.price_ascent.specs.Steps.{anchored}
-use Rattle.price_ascent.proofs.Changed.{IsChange, belong-changed, live-same, new-entry, other-entry}
-use Rattle.price_ascent.proofs.Ends.{ends-up}
-use Rattle.price_ascent.proofs.Kept.{get_or-mapped, live-at}
-use Rattle.price_ascent.proofs.Raised.{field-kept, same-table}
+use Rattle.price_ascent.proofs.Changed.{IsChange, belong_changed, live_same, new_entry, other_entry}
+use Rattle.price_ascent.proofs.Ends.{ends_up}
+use Rattle.price_ascent.proofs.Kept.{get_or-mapped, live_at}
+use Rattle.price_ascent.proofs.Raised.{field_kept, same_table}
 use Rattle.price_ascent.proofs.Tightness.{anchored-number}
 
 -- the prices stay
 pub anchored-table : (es : List Entry) (e : ℕ) → table_of (set es e (anchored (entry es e))) ≡ table_of es
 anchored-table es e =
     let x = anchored (entry es e) in
-    same-table _ _ _ _ _ _ (field-kept es e x (λ q. q.value) refl) (field-kept es e x (λ q. q.left) refl) (field-kept es e x (λ q. q.right) refl)
+    same_table _ _ _ _ _ _ (field_kept es e x (λ q. q.value) refl) (field_kept es e x (λ q. q.left) refl) (field_kept es e x (λ q. q.right) refl)
 
 pub anchored-belong : (n : NetworkParts) (es fs : List Entry) (e : ℕ) → IsChange n es fs e (anchored (entry es e)) → (entry es e).live ≡ true → ¬ IsHullNumber n e → BelongTo n fs
 anchored-belong n es fs e c live inner =
@@ -39,7 +39,7 @@ anchored-belong n es fs e c live inner =
     let h = c.belong.each e c.e_in in
     let same : prices_of n fs ≡ prices_of n es
     = ap (λ (t : PriceTable). table_prices n t (live_numbers (live_of fs))) (ap table_of c.is ∙ anchored-table es e)
-    ∙ ap (λ (bs : List Bool). table_prices n (table_of es) (live_numbers bs)) (live-same n es fs e x c) in
+    ∙ ap (λ (bs : List Bool). table_prices n (table_of es) (live_numbers bs)) (live_same n es fs e x c) in
     let own : IsEntryOf n (prices_of n es) e a b x
     = record {
       price = h.price;
@@ -56,7 +56,7 @@ anchored-belong n es fs e c live inner =
       bare_left = h.bare_left;
       bare_right = h.bare_right;
     } in
-    belong-changed n es fs e x c (subst (λ (ps : List Priced). IsEntryOf n ps e a b x) (sym same) own)
+    belong_changed n es fs e x c (subst (λ (ps : List Priced). IsEntryOf n ps e a b x) (sym same) own)
     (subst (λ (ps : List Priced). IsFeasible n.points n.hull ps) (sym same) c.belong.feasible)
 
 -- The edges xs have been given anchors, but for those of the hull.
@@ -67,8 +67,8 @@ pub record AreAnchored (n : NetworkParts) (es fs : List Entry) (xs : List Edge) 
   pub forth : (k : ℕ) → (entry fs k).anchored ≡ true → (k < length n.edges) × Contains xs (edge_at n k) × (¬ IsHullNumber n k)
   pub back : (k : ℕ) → k < length n.edges → Contains xs (edge_at n k) → ¬ IsHullNumber n k → (entry fs k).anchored ≡ true
 
-pub none-anchored : (n : NetworkParts) (es : List Entry) → BelongTo n es → ((k : ℕ) → (entry es k).anchored ≡ false) → AreAnchored n es es []
-none-anchored n es b none =
+pub none_anchored : (n : NetworkParts) (es : List Entry) → BelongTo n es → ((k : ℕ) → (entry es k).anchored ≡ false) → AreAnchored n es es []
+none_anchored n es b none =
     record {
       belong = b;
       live = refl;
@@ -79,29 +79,29 @@ none-anchored n es b none =
 
 -- an edge has its number
 number-edge : (n : NetworkParts) (e : ℕ) (x : Edge) → IsNumberOf n x.a x.b e → edge_at n e ≡ x
-number-edge n e x is = let ends = ends-up n e x.a x.b is x.ascending in Edge-equal (edge_at n e) x ends.0 ends.1
+number-edge n e x is = let ends = ends_up n e x.a x.b is x.ascending in Edge-equal (edge_at n e) x ends.0 ends.1
 
 -- one edge more
-pub more-anchored : (n : NetworkParts) (es fs gs : List Entry) (xs : List Edge) (x : Edge) (e : ℕ) → AreAnchored n es fs xs → IsNumberOf n x.a x.b e → ¬ IsHullNumber n e
+pub more_anchored : (n : NetworkParts) (es fs gs : List Entry) (xs : List Edge) (x : Edge) (e : ℕ) → AreAnchored n es fs xs → IsNumberOf n x.a x.b e → ¬ IsHullNumber n e
     → BelongTo n gs → gs ≡ set fs e (anchored (entry fs e)) → AreAnchored n es gs (xs ++ x ∷ [])
-more-anchored n es fs gs xs x e h is inner after gs_is =
+more_anchored n es fs gs xs x e h is inner after gs_is =
     let c : IsChange n fs gs e (anchored (entry fs e)) = record { belong = h.belong; e_in = is.0; is = gs_is; live = refl } in
-    let now : (entry gs e).anchored ≡ true = ap (λ (p : Entry). p.anchored) (new-entry n fs gs e (anchored (entry fs e)) c) in
+    let now : (entry gs e).anchored ≡ true = ap (λ (p : Entry). p.anchored) (new_entry n fs gs e (anchored (entry fs e)) c) in
     let edge = number-edge n e x is in
     record {
       belong = after;
-      live = live-same n fs gs e (anchored (entry fs e)) c ∙ h.live;
+      live = live_same n fs gs e (anchored (entry fs e)) c ∙ h.live;
       same = ap table_of gs_is ∙ (anchored-table fs e ∙ h.same);
       forth = λ k on. ⊎_elim
           (λ (same : k ≡ e). subst (λ (j : ℕ). (j < length n.edges) × Contains (xs ++ x ∷ []) (edge_at n j) × (¬ IsHullNumber n j)) (sym same)
           (is.0, subst (λ (y : Edge). Contains (xs ++ x ∷ []) y) (sym edge) (Contains-push xs x), inner))
           (λ (away : k ≢ e).
-          let old = h.forth k (ap (λ (p : Entry). p.anchored) (sym (other-entry n fs gs e (anchored (entry fs e)) k c away)) ∙ on) in
+          let old = h.forth k (ap (λ (p : Entry). p.anchored) (sym (other_entry n fs gs e (anchored (entry fs e)) k c away)) ∙ on) in
           (old.0, Contains-append_left xs (x ∷ []) (edge_at n k) old.1, old.2))
           (cases_eq k e);
       back = λ k k_in has out. ⊎_elim
           (λ (same : k ≡ e). ap (λ (j : ℕ). (entry gs j).anchored) same ∙ now)
-          (λ (away : k ≢ e). ap (λ (p : Entry). p.anchored) (other-entry n fs gs e (anchored (entry fs e)) k c away)
+          (λ (away : k ≢ e). ap (λ (p : Entry). p.anchored) (other_entry n fs gs e (anchored (entry fs e)) k c away)
           ∙ h.back k k_in (⊎_elim
           (λ (old : Contains xs (edge_at n k)). old)
           (λ (new : x ≡ edge_at n k). absurd (away (edge_at-once n k e h.belong.network.ascending k_in is.0 (sym new ∙ sym edge))))
@@ -110,8 +110,8 @@ more-anchored n es fs gs xs x e h is inner after gs_is =
     }
 
 -- an edge of the hull is passed over
-pub hull-passed : (n : NetworkParts) (es fs : List Entry) (xs : List Edge) (x : Edge) (e : ℕ) → AreAnchored n es fs xs → IsNumberOf n x.a x.b e → IsHullNumber n e → AreAnchored n es fs (xs ++ x ∷ [])
-hull-passed n es fs xs x e h is hull =
+pub hull_passed : (n : NetworkParts) (es fs : List Entry) (xs : List Edge) (x : Edge) (e : ℕ) → AreAnchored n es fs xs → IsNumberOf n x.a x.b e → IsHullNumber n e → AreAnchored n es fs (xs ++ x ∷ [])
+hull_passed n es fs xs x e h is hull =
     record {
       belong = h.belong;
       live = h.live;
@@ -126,16 +126,16 @@ hull-passed n es fs xs x e h is hull =
     }
 
 -- a live edge and its number
-pub live-edge : (n : NetworkParts) (es : List Entry) (x : Edge) → Contains (live_edges n (live_of es)) x → (k : ℕ) × IsNumberOf n x.a x.b k × ((entry es k).live ≡ true)
-live-edge n es x has =
+pub live_edge : (n : NetworkParts) (es : List Entry) (x : Edge) → Contains (live_edges n (live_of es)) x → (k : ℕ) × IsNumberOf n x.a x.b k × ((entry es k).live ≡ true)
+live_edge n es x has =
     let r = picked_from (live_of es) n.edges x has in
     let is : edge_at n r.0 ≡ x = get_or_default n.edges r.0 _ x r.1 ∙ r.3 in
-    (r.0, (r.1, subst (λ (y : Edge). Joins y x.a x.b) (sym is) (Joins-ends x)), sym (live-at es r.0) ∙ r.2)
+    (r.0, (r.1, subst (λ (y : Edge). Joins y x.a x.b) (sym is) (Joins-ends x)), sym (live_at es r.0) ∙ r.2)
 
 -- the number of a live edge is live
-pub live-number-of : (n : NetworkParts) (es : List Entry) (x : Edge) (e : ℕ) → BelongTo n es → Contains (live_edges n (live_of es)) x → IsNumberOf n x.a x.b e → (entry es e).live ≡ true
-live-number-of n es x e b has is =
-    let k = live-edge n es x has in
+pub live_number_of : (n : NetworkParts) (es : List Entry) (x : Edge) (e : ℕ) → BelongTo n es → Contains (live_edges n (live_of es)) x → IsNumberOf n x.a x.b e → (entry es e).live ≡ true
+live_number_of n es x e b has is =
+    let k = live_edge n es x has in
     let same : k.0 ≡ e = edge_at-once n k.0 e b.network.ascending k.1.0 is.0 (number-edge n k.0 x k.1 ∙ sym (number-edge n e x is)) in
     ap (λ (j : ℕ). (entry es j).live) (sym same) ∙ k.2
 
@@ -149,7 +149,7 @@ anchored-forth n es fs xs x h has =
 pub anchored-back : (n : NetworkParts) (es fs : List Entry) (xs : List Edge) (x : Edge) → AreAnchored n es fs xs → Contains (live_edges n (live_of es)) x → Contains xs x → ¬ IsHullEdge n.hull x
     → Contains (anchored_edges n fs) x
 anchored-back n es fs xs x h live has out =
-    let k = live-edge n es x live in
+    let k = live_edge n es x live in
     let is = number-edge n k.0 x k.1 in
     let flag = h.back k.0 k.1.0 (subst (Contains xs) (sym is) has) (subst (λ (y : Edge). ¬ IsHullEdge n.hull y) (sym is) out) in
     subst (Contains (anchored_edges n fs)) is (picked_in (map (λ p. p.anchored) fs) n.edges k.0 _ k.1.0 (get_or-mapped (λ (p : Entry). p.anchored) fs k.0 no_entry ∙ flag))

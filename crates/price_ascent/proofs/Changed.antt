@@ -11,8 +11,8 @@ use Rattle.exact_predicates.specs.declared.tri.Tri.{Tri}
 use Rattle.price_ascent.specs.declared.entry.Entry.{Entry}
 use Rattle.price_ascent.specs.Belonging.{BelongTo, IsBareSide, IsEntryOf}
 use Rattle.price_ascent.specs.Entries.{entry, live_of, no_entry, prices_of}
-use Rattle.price_ascent.proofs.Kept.{kept_price, live-at, share-kept, side_share}
-use Rattle.price_ascent.proofs.LiveSides.{same-live}
+use Rattle.price_ascent.proofs.Kept.{kept_price, live_at, share-kept, side_share}
+use Rattle.price_ascent.proofs.LiveSides.{same_live}
 
 -- The entry of the edge e has become x, which is live where the old one was.
 pub record IsChange (n : NetworkParts) (es fs : List Entry) (e : ℕ) (x : Entry) : Type 0 where
@@ -21,66 +21,66 @@ pub record IsChange (n : NetworkParts) (es fs : List Entry) (e : ℕ) (x : Entry
   pub is : fs ≡ set es e x
   pub live : x.live ≡ (entry es e).live
 
-pub new-entry : (n : NetworkParts) (es fs : List Entry) (e : ℕ) (x : Entry) → IsChange n es fs e x → entry fs e ≡ x
-new-entry n es fs e x c =
+pub new_entry : (n : NetworkParts) (es fs : List Entry) (e : ℕ) (x : Entry) → IsChange n es fs e x → entry fs e ≡ x
+new_entry n es fs e x c =
     ap (λ gs. entry gs e) c.is ∙ get_or-set_same es e x no_entry (let one = c.belong.one_each in let l = c.e_in in omega arith)
 
-pub other-entry : (n : NetworkParts) (es fs : List Entry) (e : ℕ) (x : Entry) (k : ℕ) → IsChange n es fs e x → k ≢ e → entry fs k ≡ entry es k
-other-entry n es fs e x k c away = ap (λ gs. entry gs k) c.is ∙ get_or-set_other es e k x no_entry away
+pub other_entry : (n : NetworkParts) (es fs : List Entry) (e : ℕ) (x : Entry) (k : ℕ) → IsChange n es fs e x → k ≢ e → entry fs k ≡ entry es k
+other_entry n es fs e x k c away = ap (λ gs. entry gs k) c.is ∙ get_or-set_other es e k x no_entry away
 
 pub one-each : (n : NetworkParts) (es fs : List Entry) (e : ℕ) (x : Entry) → IsChange n es fs e x → length fs ≡ length n.edges
 one-each n es fs e x c = ap length c.is ∙ (length-set es e x ∙ c.belong.one_each)
 
 -- the list of a field that is the same in the new entry
-pub same-field : {Y : Type 0} (f : Entry → Y) (es : List Entry) (e : ℕ) (x : Entry) (d : Y) → get_or (map f es) e d ≡ f x → map f (set es e x) ≡ map f es
-same-field f es e x d is = map-set f es e x ∙ (ap (set (map f es) e) (sym is) ∙ set-get_or (map f es) e d)
+pub same_field : {Y : Type 0} (f : Entry → Y) (es : List Entry) (e : ℕ) (x : Entry) (d : Y) → get_or (map f es) e d ≡ f x → map f (set es e x) ≡ map f es
+same_field f es e x d is = map-set f es e x ∙ (ap (set (map f es) e) (sym is) ∙ set-get_or (map f es) e d)
 
-pub live-same : (n : NetworkParts) (es fs : List Entry) (e : ℕ) (x : Entry) → IsChange n es fs e x → live_of fs ≡ live_of es
-live-same n es fs e x c = ap live_of c.is ∙ same-field (λ p. p.live) es e x false (live-at es e ∙ sym c.live)
+pub live_same : (n : NetworkParts) (es fs : List Entry) (e : ℕ) (x : Entry) → IsChange n es fs e x → live_of fs ≡ live_of es
+live_same n es fs e x c = ap live_of c.is ∙ same_field (λ p. p.live) es e x false (live_at es e ∙ sym c.live)
 
 -- the live triangles are the same
-pub live-back : (n : NetworkParts) (es fs : List Entry) (e : ℕ) (x : Entry) (t : Tri) → IsChange n es fs e x → IsLiveTriangle n.points (prices_of n fs) t → IsLiveTriangle n.points (prices_of n es) t
-live-back n es fs e x t c over = same-live n fs es t (one-each n es fs e x c) c.belong.one_each (live-same n es fs e x c) over
+pub live_back : (n : NetworkParts) (es fs : List Entry) (e : ℕ) (x : Entry) (t : Tri) → IsChange n es fs e x → IsLiveTriangle n.points (prices_of n fs) t → IsLiveTriangle n.points (prices_of n es) t
+live_back n es fs e x t c over = same_live n fs es t (one-each n es fs e x c) c.belong.one_each (live_same n es fs e x c) over
 
-pub live-forth : (n : NetworkParts) (es fs : List Entry) (e : ℕ) (x : Entry) (t : Tri) → IsChange n es fs e x → IsLiveTriangle n.points (prices_of n es) t → IsLiveTriangle n.points (prices_of n fs) t
-live-forth n es fs e x t c over = same-live n es fs t c.belong.one_each (one-each n es fs e x c) (sym (live-same n es fs e x c)) over
+pub live_forth : (n : NetworkParts) (es fs : List Entry) (e : ℕ) (x : Entry) (t : Tri) → IsChange n es fs e x → IsLiveTriangle n.points (prices_of n es) t → IsLiveTriangle n.points (prices_of n fs) t
+live_forth n es fs e x t c over = same_live n es fs t c.belong.one_each (one-each n es fs e x c) (sym (live_same n es fs e x c)) over
 
-pub bare-back : (n : NetworkParts) (es fs : List Entry) (e : ℕ) (x : Entry) (u v : ℕ) → IsChange n es fs e x → IsBareSide n.points (prices_of n fs) u v → IsBareSide n.points (prices_of n es) u v
-bare-back n es fs e x u v c bare t on = bare t (on.0, live-forth n es fs e x t c on.1)
+pub bare_back : (n : NetworkParts) (es fs : List Entry) (e : ℕ) (x : Entry) (u v : ℕ) → IsChange n es fs e x → IsBareSide n.points (prices_of n fs) u v → IsBareSide n.points (prices_of n es) u v
+bare_back n es fs e x u v c bare t on = bare t (on.0, live_forth n es fs e x t c on.1)
 
 -- the share of a side of another edge
 pub share-other : (n : NetworkParts) (es fs : List Entry) (e : ℕ) (x : Entry) (k u v : ℕ) → IsChange n es fs e x → k ≢ e → (entry es k).live ≡ true → IsNumberOf n u v k
     → share n.points n.hull (prices_of n fs) u v ≡ share n.points n.hull (prices_of n es) u v
 share-other n es fs e x k u v c away live is =
-    let same = other-entry n es fs e x k c away in
+    let same = other_entry n es fs e x k c away in
     let net = c.belong.network in
     let price : kept_price n fs k ≡ kept_price n es k = ap (λ (p : Entry). record { edge = edge_at n k; value = p.value; left = p.left; right = p.right }) same in
     share-kept n fs k u v net (one-each n es fs e x c) (ap (λ (p : Entry). p.live) same ∙ live) is
     ∙ (ap (λ p. side_share n.points n.hull p u v) price ∙ sym (share-kept n es k u v net c.belong.one_each live is))
 
 -- the side of an edge that is either one of its two
-pub which-side : (n : NetworkParts) (e u v : ℕ) → IsNumberOf n u v e → ((u ≡ (edge_at n e).a) × (v ≡ (edge_at n e).b)) ⊎ ((u ≡ (edge_at n e).b) × (v ≡ (edge_at n e).a))
-which-side n e u v is =
+pub which_side : (n : NetworkParts) (e u v : ℕ) → IsNumberOf n u v e → ((u ≡ (edge_at n e).a) × (v ≡ (edge_at n e).b)) ⊎ ((u ≡ (edge_at n e).b) × (v ≡ (edge_at n e).a))
+which_side n e u v is =
     let low = is.1.0 in
     let high = is.1.1 in
     ⊎_elim (λ l. inl (omega arith, omega arith)) (λ l. inr (omega arith, omega arith)) (cases_lt u v)
 
 -- the edge of a pair of the hull
-pub hull-of : (n : NetworkParts) (e u v : ℕ) → IsNumberOf n u v e → IsHullPair n.hull u v → IsHullNumber n e
-hull-of n e u v is pair =
+pub hull_of : (n : NetworkParts) (e u v : ℕ) → IsNumberOf n u v e → IsHullPair n.hull u v → IsHullNumber n e
+hull_of n e u v is pair =
     ⊎_elim
     (λ (p : (u ≡ (edge_at n e).a) × (v ≡ (edge_at n e).b)). inl (subst (λ (x : ℕ). IsHullPair n.hull x (edge_at n e).b) p.0 (subst (λ (y : ℕ). IsHullPair n.hull u y) p.1 pair)))
     (λ (p : (u ≡ (edge_at n e).b) × (v ≡ (edge_at n e).a)). inr (subst (λ (x : ℕ). IsHullPair n.hull x (edge_at n e).a) p.0 (subst (λ (y : ℕ). IsHullPair n.hull u y) p.1 pair)))
-    (which-side n e u v is)
+    (which_side n e u v is)
 
 -- the entries of the other edges stay what they are
-other-is : (n : NetworkParts) (es fs : List Entry) (e : ℕ) (x : Entry) (k : ℕ) → IsChange n es fs e x → k ≢ e → k < length n.edges
+other_is : (n : NetworkParts) (es fs : List Entry) (e : ℕ) (x : Entry) (k : ℕ) → IsChange n es fs e x → k ≢ e → k < length n.edges
     → IsEntryOf n (prices_of n fs) k (edge_at n k).a (edge_at n k).b (entry fs k)
-other-is n es fs e x k c away k_in =
+other_is n es fs e x k c away k_in =
     let h = c.belong.each k k_in in
     let a = (edge_at n k).a in
     let b = (edge_at n k).b in
-    subst (IsEntryOf n (prices_of n fs) k a b) (sym (other-entry n es fs e x k c away)) (record {
+    subst (IsEntryOf n (prices_of n fs) k a b) (sym (other_entry n es fs e x k c away)) (record {
       price = h.price;
       anchor = h.anchor;
       left = h.left;
@@ -91,24 +91,24 @@ other-is n es fs e x k c away k_in =
       hull_live = h.hull_live;
       inner = h.inner;
       elsewhere = h.elsewhere;
-      bare_hull = λ u v is pair bare. h.bare_hull u v is pair (bare-back n es fs e x u v c bare);
-      bare_left = λ bare. h.bare_left (bare-back n es fs e x a b c bare);
-      bare_right = λ bare. h.bare_right (bare-back n es fs e x b a c bare);
+      bare_hull = λ u v is pair bare. h.bare_hull u v is pair (bare_back n es fs e x u v c bare);
+      bare_left = λ bare. h.bare_left (bare_back n es fs e x a b c bare);
+      bare_right = λ bare. h.bare_right (bare_back n es fs e x b a c bare);
     })
 
 -- so all belong to the network, where the new entry does and the prices are feasible
-pub belong-changed : (n : NetworkParts) (es fs : List Entry) (e : ℕ) (x : Entry) → IsChange n es fs e x
+pub belong_changed : (n : NetworkParts) (es fs : List Entry) (e : ℕ) (x : Entry) → IsChange n es fs e x
     → IsEntryOf n (prices_of n fs) e (edge_at n e).a (edge_at n e).b x → IsFeasible n.points n.hull (prices_of n fs) → BelongTo n fs
-belong-changed n es fs e x c own feasible =
+belong_changed n es fs e x c own feasible =
     record {
       network = c.belong.network;
       one_each = one-each n es fs e x c;
-      light = λ k k_in live. c.belong.light k k_in (sym (live-at es k) ∙ (ap (λ bs. get_or bs k false) (sym (live-same n es fs e x c)) ∙ (live-at fs k ∙ live)));
+      light = λ k k_in live. c.belong.light k k_in (sym (live_at es k) ∙ (ap (λ bs. get_or bs k false) (sym (live_same n es fs e x c)) ∙ (live_at fs k ∙ live)));
       each = λ k k_in.
           ⊎_elim
           (λ (same : k ≡ e). subst (λ (i : ℕ). IsEntryOf n (prices_of n fs) i (edge_at n i).a (edge_at n i).b (entry fs i)) (sym same)
-          (subst (IsEntryOf n (prices_of n fs) e (edge_at n e).a (edge_at n e).b) (sym (new-entry n es fs e x c)) own))
-          (λ (away : k ≢ e). other-is n es fs e x k c away k_in)
+          (subst (IsEntryOf n (prices_of n fs) e (edge_at n e).a (edge_at n e).b) (sym (new_entry n es fs e x c)) own))
+          (λ (away : k ≢ e). other_is n es fs e x k c away k_in)
           (cases_eq k e);
       feasible = feasible;
     }

@@ -32,8 +32,8 @@ itself f g x y d u v h is_x is_y =
     subst (λ (z : ℕ). (f z v +ℤ d) ≤ℤ g z v) (sym is_x) (subst (λ (z : ℕ). (f x z +ℤ d) ≤ℤ g x z) (sym is_y) h)
 
 -- with the side x to y the slack has d more, or yet more
-pub with-side : (f g : ℕ → ℕ → ℤ) (x y : ℕ) (d : ℤ) (t : Tri) → AreUpTo f g x y t → (f x y +ℤ d) ≤ℤ g x y → HasSide t x y → (side_sum f t +ℤ d) ≤ℤ side_sum g t
-with-side f g x y d t each h (w, corners) =
+pub with_side : (f g : ℕ → ℕ → ℤ) (x y : ℕ) (d : ℤ) (t : Tri) → AreUpTo f g x y t → (f x y +ℤ d) ≤ℤ g x y → HasSide t x y → (side_sum f t +ℤ d) ≤ℤ side_sum g t
+with_side f g x y d t each h (w, corners) =
     ⊎_elim
     (λ (c : (t.a ≡ x) × (t.b ≡ y) × (t.c ≡ w)).
     let a_is = c.0 in
@@ -62,8 +62,8 @@ with-side f g x y d t each h (w, corners) =
     corners
 
 -- without it the slack has at least as much
-pub without-side : (f g : ℕ → ℕ → ℤ) (x y : ℕ) (t : Tri) → AreUpTo f g x y t → ¬ HasSide t x y → side_sum f t ≤ℤ side_sum g t
-without-side f g x y t each none =
+pub without_side : (f g : ℕ → ℕ → ℤ) (x y : ℕ) (t : Tri) → AreUpTo f g x y t → ¬ HasSide t x y → side_sum f t ≤ℤ side_sum g t
+without_side f g x y t each none =
     let ab = kept t.a t.b (first t) in
     let bc = kept t.b t.c (second t) in
     let ca = kept t.c t.a (third t) in
@@ -77,8 +77,8 @@ without-side f g x y t each none =
         (each u v side)
 
 -- a triangle has a side or has it not
-pub side-or-not : (t : Tri) (x y : ℕ) → HasSide t x y ⊎ (¬ HasSide t x y)
-side-or-not t x y =
+pub side_or_not : (t : Tri) (x y : ℕ) → HasSide t x y ⊎ (¬ HasSide t x y)
+side_or_not t x y =
     ⊎_elim
     (λ p. inl (t.c, inl (p.0, p.1, refl)))
     (λ no_first. ⊎_elim

@@ -9,19 +9,19 @@ use Rattle.exact_predicates.specs.Hull.{IsHull, IsHullPair}
 use Rattle.exact_predicates.proofs.Rings.{place_of_pair}
 use Rattle.lmt_network.specs.Network.{IsNetwork, NetworkParts, edge_at}
 use Rattle.lmt_network.specs.Numbers.{IsNumberOf}
-use Rattle.lmt_network.proofs.FlipMinimal.{edge-between, hull-edge}
-use Rattle.lmt_network.proofs.Naming.{read-member}
+use Rattle.lmt_network.proofs.FlipMinimal.{edge_between, hull_edge}
+use Rattle.lmt_network.proofs.Naming.{read_member}
 use Rattle.price_ascent.specs.Steps.{IsSlack}
 
-pub ends-up : (n : NetworkParts) (e u v : ℕ) → IsNumberOf n u v e → u < v → ((edge_at n e).a ≡ u) × ((edge_at n e).b ≡ v)
-ends-up n e u v is l = let low = is.1.0 in let high = is.1.1 in (omega arith, omega arith)
+pub ends_up : (n : NetworkParts) (e u v : ℕ) → IsNumberOf n u v e → u < v → ((edge_at n e).a ≡ u) × ((edge_at n e).b ≡ v)
+ends_up n e u v is l = let low = is.1.0 in let high = is.1.1 in (omega arith, omega arith)
 
-pub ends-down : (n : NetworkParts) (e u v : ℕ) → IsNumberOf n u v e → v ≤ u → ((edge_at n e).b ≡ u) × ((edge_at n e).a ≡ v)
-ends-down n e u v is l = let low = is.1.0 in let high = is.1.1 in (omega arith, omega arith)
+pub ends_down : (n : NetworkParts) (e u v : ℕ) → IsNumberOf n u v e → v ≤ u → ((edge_at n e).b ≡ u) × ((edge_at n e).a ≡ v)
+ends_down n e u v is l = let low = is.1.0 in let high = is.1.1 in (omega arith, omega arith)
 
 -- the two members of a pair of the hull are two points
-pub hull-apart : (ps : List Point) (hull : List ℕ) (u v : ℕ) → IsHull ps hull → IsHullPair hull u v → u ≢ v
-hull-apart ps hull u v hull_is p same =
+pub hull_apart : (ps : List Point) (hull : List ℕ) (u v : ℕ) → IsHull ps hull → IsHullPair hull u v → u ≢ v
+hull_apart ps hull u v hull_is p same =
     let (k, k_in, at_k, next) = place_of_pair hull u v p in
     let three = hull_is.three in
     ⊎_elim
@@ -30,17 +30,17 @@ hull-apart ps hull u v hull_is p same =
     next
 
 -- and have an edge of the network
-pub hull-number-there : (n : NetworkParts) (u v : ℕ) → IsNetwork n → IsHullPair n.hull u v → (e : ℕ) × IsNumberOf n u v e
-hull-number-there n u v net pair =
-    let e = edge-between u v (hull-apart n.points n.hull u v net.hull_is pair) in
-    let k = net.hull_edges e.0 (hull-edge n.hull e.0 u v e.1 pair) in
-    (k.0, (k.1, subst (λ (x : Edge). Joins x u v) (sym (read-member n.edges e.0 _ k)) e.1))
+pub hull_number_there : (n : NetworkParts) (u v : ℕ) → IsNetwork n → IsHullPair n.hull u v → (e : ℕ) × IsNumberOf n u v e
+hull_number_there n u v net pair =
+    let e = edge_between u v (hull_apart n.points n.hull u v net.hull_is pair) in
+    let k = net.hull_edges e.0 (hull_edge n.hull e.0 u v e.1 pair) in
+    (k.0, (k.1, subst (λ (x : Edge). Joins x u v) (sym (read_member n.edges e.0 _ k)) e.1))
 
-pub hull-order : (n : NetworkParts) (u v : ℕ) → IsNetwork n → IsHullPair n.hull u v → (u < v) ⊎ (v < u)
-hull-order n u v net pair =
-    let apart = hull-apart n.points n.hull u v net.hull_is pair in
+pub hull_order : (n : NetworkParts) (u v : ℕ) → IsNetwork n → IsHullPair n.hull u v → (u < v) ⊎ (v < u)
+hull_order n u v net pair =
+    let apart = hull_apart n.points n.hull u v net.hull_is pair in
     ⊎_elim (λ l. inl l) (λ l. inr (omega arith)) (cases_lt u v)
 
 -- a least slack as it is written
-pub least-is : (m : ℤ) → IsSlack m → to_z w64 (of_z w64 m) ≡ m
-least-is m h = let low = h.0 in let high = h.1 in omega (arith, ints, low, high)
+pub least_is : (m : ℤ) → IsSlack m → to_z w64 (of_z w64 m) ≡ m
+least_is m h = let low = h.0 in let high = h.1 in omega (arith, ints, low, high)

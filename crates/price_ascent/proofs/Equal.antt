@@ -5,8 +5,8 @@ use Rattle.price_ascent.specs.declared.entry.Entry.{Entry}
 abbrev made : ℤ → ℤ → ℤ → ℤ → ℤ → Bool → Bool → Entry
 made value left right up down live anchored = record { value = value; left = left; right = right; up = up; down = down; live = live; anchored = anchored }
 
-pub same-entry : (p q : Entry) → p.value ≡ q.value → p.left ≡ q.left → p.right ≡ q.right → p.up ≡ q.up → p.down ≡ q.down → p.live ≡ q.live → p.anchored ≡ q.anchored → p ≡ q
-same-entry p q value left right up down live anchored =
+pub same_entry : (p q : Entry) → p.value ≡ q.value → p.left ≡ q.left → p.right ≡ q.right → p.up ≡ q.up → p.down ≡ q.down → p.live ≡ q.live → p.anchored ≡ q.anchored → p ≡ q
+same_entry p q value left right up down live anchored =
     ap (λ x. made x p.left p.right p.up p.down p.live p.anchored) value
     ∙ (ap (λ x. made q.value x p.right p.up p.down p.live p.anchored) left
     ∙ (ap (λ x. made q.value q.left x p.up p.down p.live p.anchored) right

@@ -6,8 +6,8 @@ use Rattle.lmt_network.specs.Network.{IsNetwork, NetworkParts, edge_at}
 use Rattle.lmt_network.specs.Numbers.{IsNumberOf}
 use Rattle.lmt_network.specs.PriceTables.{IsByNumber, entry_at}
 use Rattle.lmt_network.specs.Prices.{Priced, is_on_hull, priced, share, weight_between}
-use Rattle.lmt_network.proofs.Picked.{all-from-members, flag-from_live, flag_in, live-from_flag}
-use Rattle.lmt_network.proofs.PriceTables.{by_number-law}
+use Rattle.lmt_network.proofs.Picked.{all-from-members, flag_from_live, flag_in, live_from_flag}
+use Rattle.lmt_network.proofs.PriceTables.{by_number_law}
 use Rattle.std.proofs.lemmas.List.{length-map}
 use Rattle.price_ascent.specs.declared.entry.Entry.{Entry}
 use Rattle.price_ascent.specs.Entries.{entry, live_of, no_entry, prices_of, table_of}
@@ -18,21 +18,21 @@ get_or-mapped f [] k d = refl
 get_or-mapped f (x ∷ xs) zero d = refl
 get_or-mapped f (x ∷ xs) (suc k) d = get_or-mapped f xs k d
 
-pub live-at : (es : List Entry) (e : ℕ) → get_or (live_of es) e false ≡ (entry es e).live
-live-at es e = get_or-mapped (λ p. p.live) es e no_entry
+pub live_at : (es : List Entry) (e : ℕ) → get_or (live_of es) e false ≡ (entry es e).live
+live_at es e = get_or-mapped (λ p. p.live) es e no_entry
 
 -- the live numbers
-pub live-number : (es : List Entry) (e : ℕ) → (entry es e).live ≡ true → Contains (live_numbers (live_of es)) e
-live-number es e is = live-from_flag (live_of es) e (live-at es e ∙ is)
+pub live_number : (es : List Entry) (e : ℕ) → (entry es e).live ≡ true → Contains (live_numbers (live_of es)) e
+live_number es e is = live_from_flag (live_of es) e (live_at es e ∙ is)
 
 pub number-live : (es : List Entry) (e : ℕ) → Contains (live_numbers (live_of es)) e → (entry es e).live ≡ true
-number-live es e has = sym (live-at es e) ∙ flag-from_live (live_of es) e has
+number-live es e has = sym (live_at es e) ∙ flag_from_live (live_of es) e has
 
-pub by-number : (n : NetworkParts) (es : List Entry) → IsNetwork n → length es ≡ length n.edges → IsByNumber n (table_of es) (live_numbers (live_of es))
-by-number n es net one_each =
-    by_number-law n (table_of es) (live_numbers (live_of es)) net
+pub by_number : (n : NetworkParts) (es : List Entry) → IsNetwork n → length es ≡ length n.edges → IsByNumber n (table_of es) (live_numbers (live_of es))
+by_number n es net one_each =
+    by_number_law n (table_of es) (live_numbers (live_of es)) net
     (all-from-members (λ e. e < length n.edges) (live_numbers (live_of es))
-    (λ e has. let l = flag_in (live_of es) e (flag-from_live (live_of es) e has) in omega (arith, length-map es (λ (p : Entry). p.live), l)))
+    (λ e has. let l = flag_in (live_of es) e (flag_from_live (live_of es) e has) in omega (arith, length-map es (λ (p : Entry). p.live), l)))
 
 -- what the prices say of an edge
 abbrev pub kept_price : NetworkParts → List Entry → ℕ → Priced
@@ -47,7 +47,7 @@ entry_at-kept n es e =
 
 pub priced-kept : (n : NetworkParts) (es : List Entry) (e u v : ℕ) → IsNetwork n → length es ≡ length n.edges → (entry es e).live ≡ true → IsNumberOf n u v e
     → priced (prices_of n es) u v ≡ kept_price n es e
-priced-kept n es e u v net one_each live is = (by-number n es net one_each).entries e u v (live-number es e live) is ∙ entry_at-kept n es e
+priced-kept n es e u v net one_each live is = (by_number n es net one_each).entries e u v (live_number es e live) is ∙ entry_at-kept n es e
 
 -- the share of a side, by the price of its edge
 abbrev pub side_share : List Point → List ℕ → Priced → ℕ → ℕ → ℤ

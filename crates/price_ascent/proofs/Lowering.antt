@@ -11,14 +11,14 @@ use Rattle.price_ascent.specs.Ascent.{IsLeastSlack, IsLiveOn, lowest}
 use Rattle.price_ascent.specs.Belonging.{BelongTo}
 use Rattle.price_ascent.specs.Entries.{entry, prices_of}
 use Rattle.price_ascent.specs.Steps.{lowered}
-use Rattle.price_ascent.proofs.Changed.{IsChange, bare-back, belong-changed, hull-of, live-back, new-entry, one-each, share-other, which-side}
-use Rattle.price_ascent.proofs.Changes.{AreUpTo, side-or-not, with-side, without-side}
-use Rattle.price_ascent.proofs.LiveSides.{side-number}
-use Rattle.price_ascent.proofs.Shares.{has-shares, hull-number, on_hull, own-shares}
-use Rattle.price_ascent.proofs.SlackBounds.{least-fits}
+use Rattle.price_ascent.proofs.Changed.{IsChange, bare_back, belong_changed, hull_of, live_back, new_entry, one-each, share-other, which_side}
+use Rattle.price_ascent.proofs.Changes.{AreUpTo, side_or_not, with_side, without_side}
+use Rattle.price_ascent.proofs.LiveSides.{side_number}
+use Rattle.price_ascent.proofs.Shares.{has_shares, hull_number, on_hull, own_shares}
+use Rattle.price_ascent.proofs.SlackBounds.{least_fits}
 
-pub inner-off : (n : NetworkParts) (e : ℕ) → ¬ IsHullNumber n e → on_hull n e ≡ false
-inner-off n e inner = ⊎_elim (λ on. absurd (inner (hull-number n e on))) (λ off. off) (cases_Bool (on_hull n e))
+pub inner_off : (n : NetworkParts) (e : ℕ) → ¬ IsHullNumber n e → on_hull n e ≡ false
+inner_off n e inner = ⊎_elim (λ on. absurd (inner (hull_number n e on))) (λ off. off) (cases_Bool (on_hull n e))
 
 -- What lowering the price of the inner edge e by m changes.
 pub record IsFall (n : NetworkParts) (es fs : List Entry) (e : ℕ) (m : ℤ) : Type 0 where
@@ -31,23 +31,23 @@ pub record IsFall (n : NetworkParts) (es fs : List Entry) (e : ℕ) (m : ℤ) : 
 abbrev pub fall : List Entry → ℕ → ℤ → ℤ
 fall es e m = (entry es e).value -ℤ (lowered (entry es e) m).value
 
-pub fall-is : (n : NetworkParts) (es fs : List Entry) (e : ℕ) (m : ℤ) → IsFall n es fs e m → (pos 0 ≤ℤ fall es e m) × (fall es e m ≤ℤ m) × (lowest ≤ℤ (lowered (entry es e) m).value)
-fall-is n es fs e m f =
+pub fall_is : (n : NetworkParts) (es fs : List Entry) (e : ℕ) (m : ℤ) → IsFall n es fs e m → (pos 0 ≤ℤ fall es e m) × (fall es e m ≤ℤ m) × (lowest ≤ℤ (lowered (entry es e) m).value)
+fall_is n es fs e m f =
     let p = (f.change.belong.each e f.change.e_in).price f.inner in
     let low = p.0 in
-    let some = (least-fits n es (edge_at n e).b (edge_at n e).a m f.change.belong f.least).0 in
+    let some = (least_fits n es (edge_at n e).b (edge_at n e).a m f.change.belong f.least).0 in
     (omega (arith, ints, clamps, low, some), omega (arith, ints, clamps, low, some), omega (arith, ints, clamps))
 
 -- the shares after the fall
-pub shares-fallen : (n : NetworkParts) (es fs : List Entry) (e : ℕ) (m : ℤ) → IsFall n es fs e m
+pub shares_fallen : (n : NetworkParts) (es fs : List Entry) (e : ℕ) (m : ℤ) → IsFall n es fs e m
     → ((lowered (entry es e) m).up ≡ share n.points n.hull (prices_of n fs) (edge_at n e).a (edge_at n e).b)
     × ((lowered (entry es e) m).down ≡ share n.points n.hull (prices_of n fs) (edge_at n e).b (edge_at n e).a)
-shares-fallen n es fs e m f =
+shares_fallen n es fs e m f =
     let c = f.change in
-    let off = inner-off n e f.inner in
-    let old = own-shares n es e c.belong c.e_in f.live in
-    let is = new-entry n es fs e (lowered (entry es e) m) c in
-    let new = has-shares n fs e c.belong.network (one-each n es fs e (lowered (entry es e) m) c) c.e_in (ap (λ (p : Entry). p.live) is ∙ f.live) in
+    let off = inner_off n e f.inner in
+    let old = own_shares n es e c.belong c.e_in f.live in
+    let is = new_entry n es fs e (lowered (entry es e) m) c in
+    let new = has_shares n fs e c.belong.network (one-each n es fs e (lowered (entry es e) m) c) c.e_in (ap (λ (p : Entry). p.live) is ∙ f.live) in
     let old_up = old.off_up off in
     let old_down = old.off_down off in
     let new_up = new.off_up off in
@@ -58,10 +58,10 @@ shares-fallen n es fs e m f =
     (omega (arith, ints, old_up, new_up, value, left), omega (arith, ints, old_down, new_down, value, right))
 
 -- all other shares of a live triangle are at least what they were
-fallen-sides : (n : NetworkParts) (es fs : List Entry) (e : ℕ) (m : ℤ) (t : Tri) → IsFall n es fs e m → IsLiveTriangle n.points (prices_of n es) t
+fallen_sides : (n : NetworkParts) (es fs : List Entry) (e : ℕ) (m : ℤ) (t : Tri) → IsFall n es fs e m → IsLiveTriangle n.points (prices_of n es) t
     → AreUpTo (share n.points n.hull (prices_of n es)) (share n.points n.hull (prices_of n fs)) (edge_at n e).b (edge_at n e).a t
-fallen-sides n es fs e m t f over u v side =
-    let k = side-number n es t u v f.change.belong.one_each over side in
+fallen_sides n es fs e m t f over u v side =
+    let k = side_number n es t u v f.change.belong.one_each over side in
     let s = share n.points n.hull (prices_of n es) in
     let r = share n.points n.hull (prices_of n fs) in
     ⊎_elim
@@ -69,34 +69,34 @@ fallen-sides n es fs e m t f over u v side =
     ⊎_elim
     (λ (p : (u ≡ (edge_at n e).a) × (v ≡ (edge_at n e).b)).
     let old = (f.change.belong.each e f.change.e_in).up f.live in
-    let new = (shares-fallen n es fs e m f).0 in
-    let some = (fall-is n es fs e m f).0 in
+    let new = (shares_fallen n es fs e m f).0 in
+    let some = (fall_is n es fs e m f).0 in
     let more : s (edge_at n e).a (edge_at n e).b ≤ℤ r (edge_at n e).a (edge_at n e).b = omega (arith, ints, old, new, some) in
     inr (subst (λ (x : ℕ). s x v ≤ℤ r x v) (sym p.0) (subst (λ (y : ℕ). s (edge_at n e).a y ≤ℤ r (edge_at n e).a y) (sym p.1) more)))
     (λ (p : (u ≡ (edge_at n e).b) × (v ≡ (edge_at n e).a)). inl p)
-    (which-side n e u v (subst (λ (i : ℕ). IsNumberOf n u v i) same k.1)))
+    (which_side n e u v (subst (λ (i : ℕ). IsNumberOf n u v i) same k.1)))
     (λ (away : k.0 ≢ e). let is = share-other n es fs e (lowered (entry es e) m) k.0 u v f.change away k.2 k.1 in inr (omega (arith, ints, is)))
     (cases_eq k.0 e)
 
 -- the prices stay feasible
-fallen-feasible : (n : NetworkParts) (es fs : List Entry) (e : ℕ) (m : ℤ) → IsFall n es fs e m → IsFeasible n.points n.hull (prices_of n fs)
-fallen-feasible n es fs e m f t over =
+fallen_feasible : (n : NetworkParts) (es fs : List Entry) (e : ℕ) (m : ℤ) → IsFall n es fs e m → IsFeasible n.points n.hull (prices_of n fs)
+fallen_feasible n es fs e m f t over =
     let c = f.change in
     let a = (edge_at n e).a in
     let b = (edge_at n e).b in
     let s = share n.points n.hull (prices_of n es) in
     let r = share n.points n.hull (prices_of n fs) in
-    let was = live-back n es fs e (lowered (entry es e) m) t c over in
-    let each = fallen-sides n es fs e m t f was in
+    let was = live_back n es fs e (lowered (entry es e) m) t c over in
+    let each = fallen_sides n es fs e m t f was in
     let feasible = c.belong.feasible t was in
     ⊎_elim
     (λ (side : HasSide t b a).
     let old = (c.belong.each e c.e_in).down f.live in
-    let new = (shares-fallen n es fs e m f).1 in
-    let most = (fall-is n es fs e m f).1 in
+    let new = (shares_fallen n es fs e m f).1 in
+    let most = (fall_is n es fs e m f).1 in
     let d = (lowered (entry es e) m).value -ℤ (entry es e).value in
     let drop : (s b a +ℤ d) ≤ℤ r b a = omega (arith, ints, old, new) in
-    let all = with-side s r b a d t each drop side in
+    let all = with_side s r b a d t each drop side in
     ⊎_elim
     (λ (h : ((t : Tri) × IsLiveOn n.points (prices_of n es) b a t × (slack n.points n.hull (prices_of n es) t ≡ m))
     × ((t : Tri) → IsLiveOn n.points (prices_of n es) b a t → m ≤ℤ slack n.points n.hull (prices_of n es) t)).
@@ -104,31 +104,31 @@ fallen-feasible n es fs e m f t over =
     omega (arith, ints, all, least, most))
     (λ (h : ((t : Tri) → ¬ IsLiveOn n.points (prices_of n es) b a t) × (m ≡ pos 0)). absurd (h.0 t (side, was)))
     f.least)
-    (λ (none : ¬ HasSide t b a). let all = without-side s r b a t each none in omega (arith, ints, all, feasible))
-    (side-or-not t b a)
+    (λ (none : ¬ HasSide t b a). let all = without_side s r b a t each none in omega (arith, ints, all, feasible))
+    (side_or_not t b a)
 
 -- and all belong to the network
-pub fallen-belong : (n : NetworkParts) (es fs : List Entry) (e : ℕ) (m : ℤ) → IsFall n es fs e m → BelongTo n fs
-fallen-belong n es fs e m f =
+pub fallen_belong : (n : NetworkParts) (es fs : List Entry) (e : ℕ) (m : ℤ) → IsFall n es fs e m → BelongTo n fs
+fallen_belong n es fs e m f =
     let c = f.change in
     let x = lowered (entry es e) m in
     let h = c.belong.each e c.e_in in
     let a = (edge_at n e).a in
     let b = (edge_at n e).b in
-    belong-changed n es fs e x c
+    belong_changed n es fs e x c
     (record {
-      price = λ inner. let high = (h.price inner).1 in let some = (fall-is n es fs e m f).0 in ((fall-is n es fs e m f).2, omega (arith, ints, high, some));
+      price = λ inner. let high = (h.price inner).1 in let some = (fall_is n es fs e m f).0 in ((fall_is n es fs e m f).2, omega (arith, ints, high, some));
       anchor = λ hull. absurd (f.inner hull);
       left = h.left;
       right = h.right;
-      up = λ live. (shares-fallen n es fs e m f).0;
-      down = λ live. (shares-fallen n es fs e m f).1;
+      up = λ live. (shares_fallen n es fs e m f).0;
+      down = λ live. (shares_fallen n es fs e m f).1;
       killed = λ dead. absurd (false≢true (sym dead ∙ f.live));
       hull_live = h.hull_live;
       inner = h.inner;
       elsewhere = h.elsewhere;
-      bare_hull = λ u v is pair bare. absurd (f.inner (hull-of n e u v is pair));
-      bare_left = λ bare. h.bare_left (bare-back n es fs e x a b c bare);
-      bare_right = λ bare. h.bare_right (bare-back n es fs e x b a c bare);
+      bare_hull = λ u v is pair bare. absurd (f.inner (hull_of n e u v is pair));
+      bare_left = λ bare. h.bare_left (bare_back n es fs e x a b c bare);
+      bare_right = λ bare. h.bare_right (bare_back n es fs e x b a c bare);
     })
-    (fallen-feasible n es fs e m f)
+    (fallen_feasible n es fs e m f)

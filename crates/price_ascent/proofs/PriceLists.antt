@@ -8,7 +8,7 @@ use Rattle.lmt_network.specs.Flags.{live_numbers}
 use Rattle.lmt_network.specs.Network.{NetworkParts}
 use Rattle.lmt_network.specs.PriceTables.{entry_at}
 use Rattle.lmt_network.specs.Prices.{ArePrices, Priced}
-use Rattle.lmt_network.proofs.Picked.{AllPairs-picked, all-from-members, flag_in, flag-from_live, picked_in}
+use Rattle.lmt_network.proofs.Picked.{AllPairs-picked, all-from-members, flag_in, flag_from_live, picked_in}
 use Rattle.std.proofs.lemmas.List.{length-map}
 use Rattle.std.proofs.Common.{arith}
 use Rattle.price_ascent.specs.declared.entry.Entry.{Entry}
@@ -18,25 +18,25 @@ use Rattle.price_ascent.proofs.Kept.{entry_at-kept, get_or-mapped, kept_price}
 use Rattle.price_ascent.proofs.LiveSides.{edges-kept}
 
 -- a live number is that of an edge
-pub live-in : (n : NetworkParts) (es : List Entry) (k : ℕ) → length es ≡ length n.edges → Contains (live_numbers (live_of es)) k → k < length n.edges
-live-in n es k one_each has =
-    let l = flag_in (live_of es) k (flag-from_live (live_of es) k has) in
+pub live_in : (n : NetworkParts) (es : List Entry) (k : ℕ) → length es ≡ length n.edges → Contains (live_numbers (live_of es)) k → k < length n.edges
+live_in n es k one_each has =
+    let l = flag_in (live_of es) k (flag_from_live (live_of es) k has) in
     let many = length-map es (λ (p : Entry). p.live) in
     omega arith
 
 -- what holds of each price
-each-price : (n : NetworkParts) (es : List Entry) (P : Priced → Type 0) → length es ≡ length n.edges → ((k : ℕ) → k < length n.edges → P (kept_price n es k)) → All P (prices_of n es)
-each-price n es P one_each each =
+each_price : (n : NetworkParts) (es : List Entry) (P : Priced → Type 0) → length es ≡ length n.edges → ((k : ℕ) → k < length n.edges → P (kept_price n es k)) → All P (prices_of n es)
+each_price n es P one_each each =
     All-map P (entry_at n (table_of es)) (live_numbers (live_of es))
     (all-from-members (λ k. P (entry_at n (table_of es) k)) (live_numbers (live_of es))
-    (λ k has. subst P (sym (entry_at-kept n es k)) (each k (live-in n es k one_each has))))
+    (λ k has. subst P (sym (entry_at-kept n es k)) (each k (live_in n es k one_each has))))
 
-pub are-prices : (n : NetworkParts) (es : List Entry) → BelongTo n es → ArePrices (anchored_edges n es) (prices_of n es)
-are-prices n es b =
+pub are_prices : (n : NetworkParts) (es : List Entry) → BelongTo n es → ArePrices (anchored_edges n es) (prices_of n es)
+are_prices n es b =
     record {
       ascending = subst (λ (xs : List Edge). AllPairs EdgePrecedes xs) (sym (edges-kept n es b.one_each)) (AllPairs-picked EdgePrecedes (live_of es) n.edges b.network.ascending);
-      not_negative = each-price n es (λ p. (pos 0 ≤ℤ p.left) × (pos 0 ≤ℤ p.right)) b.one_each (λ k k_in. ((b.each k k_in).left.0, (b.each k k_in).right.0));
-      elsewhere = each-price n es (λ p. Contains (anchored_edges n es) p.edge ⊎ ((p.left ≡ pos 0) × (p.right ≡ pos 0))) b.one_each (λ k k_in.
+      not_negative = each_price n es (λ p. (pos 0 ≤ℤ p.left) × (pos 0 ≤ℤ p.right)) b.one_each (λ k k_in. ((b.each k k_in).left.0, (b.each k k_in).right.0));
+      elsewhere = each_price n es (λ p. Contains (anchored_edges n es) p.edge ⊎ ((p.left ≡ pos 0) × (p.right ≡ pos 0))) b.one_each (λ k k_in.
           ⊎_elim
           (λ (on : (entry es k).anchored ≡ true). inl (picked_in (map (λ p. p.anchored) es) n.edges k _ k_in (get_or-mapped (λ (p : Entry). p.anchored) es k no_entry ∙ on)))
           (λ (off : (entry es k).anchored ≡ false). inr ((b.each k k_in).elsewhere off))

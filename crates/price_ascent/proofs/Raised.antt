@@ -17,13 +17,13 @@ use Rattle.price_ascent.specs.Belonging.{BelongTo}
 use Rattle.price_ascent.specs.Entries.{entry, live_of, no_entry, prices_of, table_of}
 use Rattle.price_ascent.specs.Raised.{AreRaised, IsSettled}
 use Rattle.price_ascent.specs.Steps.{IsRaisedEntry, hull_raised, left_raised, right_raised}
-use Rattle.price_ascent.proofs.Changed.{IsChange, hull-of, live-same, new-entry, other-entry, same-field}
+use Rattle.price_ascent.proofs.Changed.{IsChange, hull_of, live_same, new_entry, other_entry, same_field}
 use Rattle.price_ascent.proofs.Kept.{get_or-mapped}
-use Rattle.price_ascent.proofs.LiveSides.{same-live}
-use Rattle.price_ascent.proofs.Lowering.{inner-off}
-use Rattle.price_ascent.proofs.Raising.{hull-rise, left-rise, right-rise}
+use Rattle.price_ascent.proofs.LiveSides.{same_live}
+use Rattle.price_ascent.proofs.Lowering.{inner_off}
+use Rattle.price_ascent.proofs.Raising.{hull_rise, left_rise, right_rise}
 use Rattle.price_ascent.proofs.Rises.{AreRisen, risen}
-use Rattle.price_ascent.proofs.SlackBounds.{least-fits}
+use Rattle.price_ascent.proofs.SlackBounds.{least_fits}
 
 -- One side has been raised.
 pub record IsOneRaised (n : NetworkParts) (fs gs : List Entry) (u v : ℕ) : Type 0 where
@@ -41,8 +41,8 @@ pub record IsOneRaised (n : NetworkParts) (fs gs : List Entry) (u v : ℕ) : Typ
   pub risen : AreRisen n fs gs u v m
 
 -- no side has been raised yet
-pub none-raised : (n : NetworkParts) (es : List Entry) (sides : List (ℕ × ℕ)) → BelongTo n es → AreRaised n es es sides sides
-none-raised n es sides b =
+pub none_raised : (n : NetworkParts) (es : List Entry) (sides : List (ℕ × ℕ)) → BelongTo n es → AreRaised n es es sides sides
+none_raised n es sides b =
     record {
       belong = b;
       live = refl;
@@ -57,39 +57,39 @@ none-raised n es sides b =
     }
 
 -- live triangles before and after
-live-after : (n : NetworkParts) (fs gs : List Entry) (p q u v : ℕ) (t : Tri) → IsOneRaised n fs gs u v → IsLiveOn n.points (prices_of n fs) p q t → IsLiveOn n.points (prices_of n gs) p q t
-live-after n fs gs p q u v t r on = (on.0, same-live n fs gs t r.before.one_each r.belong.one_each (sym r.live) on.1)
+live_after : (n : NetworkParts) (fs gs : List Entry) (p q u v : ℕ) (t : Tri) → IsOneRaised n fs gs u v → IsLiveOn n.points (prices_of n fs) p q t → IsLiveOn n.points (prices_of n gs) p q t
+live_after n fs gs p q u v t r on = (on.0, same_live n fs gs t r.before.one_each r.belong.one_each (sym r.live) on.1)
 
-live-before : (n : NetworkParts) (fs gs : List Entry) (p q u v : ℕ) (t : Tri) → IsOneRaised n fs gs u v → IsLiveOn n.points (prices_of n gs) p q t → IsLiveOn n.points (prices_of n fs) p q t
-live-before n fs gs p q u v t r on = (on.0, same-live n gs fs t r.belong.one_each r.before.one_each r.live on.1)
+live_before : (n : NetworkParts) (fs gs : List Entry) (p q u v : ℕ) (t : Tri) → IsOneRaised n fs gs u v → IsLiveOn n.points (prices_of n gs) p q t → IsLiveOn n.points (prices_of n fs) p q t
+live_before n fs gs p q u v t r on = (on.0, same_live n gs fs t r.belong.one_each r.before.one_each r.live on.1)
 
 -- a settled side stays so
-keeps-settled : (n : NetworkParts) (fs gs : List Entry) (u v p q : ℕ) → IsOneRaised n fs gs u v → IsSettled n fs p q → IsSettled n gs p q
-keeps-settled n fs gs u v p q r (inl (t, on, zero)) =
-    let after = live-after n fs gs p q u v t r on in
+keeps_settled : (n : NetworkParts) (fs gs : List Entry) (u v p q : ℕ) → IsOneRaised n fs gs u v → IsSettled n fs p q → IsSettled n gs p q
+keeps_settled n fs gs u v p q r (inl (t, on, zero)) =
+    let after = live_after n fs gs p q u v t r on in
     let never = r.risen.never t on.1 in
     let some = r.belong.feasible t after.1 in
     inl (t, after, omega (arith, ints, zero, never, some))
-keeps-settled n fs gs u v p q r (inr bare) = inr (λ t on. bare t (live-before n fs gs p q u v t r on))
+keeps_settled n fs gs u v p q r (inr bare) = inr (λ t on. bare t (live_before n fs gs p q u v t r on))
 
 -- and the one that was raised is settled
-now-settled : (n : NetworkParts) (fs gs : List Entry) (u v : ℕ) → IsOneRaised n fs gs u v → IsSettled n gs u v
-now-settled n fs gs u v r =
+now_settled : (n : NetworkParts) (fs gs : List Entry) (u v : ℕ) → IsOneRaised n fs gs u v → IsSettled n gs u v
+now_settled n fs gs u v r =
     ⊎_elim
     (λ (h : ((t : Tri) × IsLiveOn n.points (prices_of n fs) u v t × (slack n.points n.hull (prices_of n fs) t ≡ r.m))
     × ((t : Tri) → IsLiveOn n.points (prices_of n fs) u v t → r.m ≤ℤ slack n.points n.hull (prices_of n fs) t)).
     let t = h.0.0 in
-    let after = live-after n fs gs u v u v t r h.0.1 in
+    let after = live_after n fs gs u v u v t r h.0.1 in
     let is = h.0.2 in
     let drop = r.risen.drops t h.0.1.1 h.0.1.0 in
     let some = r.belong.feasible t after.1 in
     inl (t, after, omega (arith, ints, is, drop, some)))
-    (λ (h : ((t : Tri) → ¬ IsLiveOn n.points (prices_of n fs) u v t) × (r.m ≡ pos 0)). inr (λ t on. h.0 t (live-before n fs gs u v u v t r on)))
+    (λ (h : ((t : Tri) → ¬ IsLiveOn n.points (prices_of n fs) u v t) × (r.m ≡ pos 0)). inr (λ t on. h.0 t (live_before n fs gs u v u v t r on)))
     r.least
 
 -- one side more
-pub more-raised : (n : NetworkParts) (es fs gs : List Entry) (sides rest : List (ℕ × ℕ)) (u v : ℕ) → AreRaised n es fs sides ((u, v) ∷ rest) → IsOneRaised n fs gs u v → AreRaised n es gs sides rest
-more-raised n es fs gs sides rest u v h r =
+pub more_raised : (n : NetworkParts) (es fs gs : List Entry) (sides rest : List (ℕ × ℕ)) (u v : ℕ) → AreRaised n es fs sides ((u, v) ∷ rest) → IsOneRaised n fs gs u v → AreRaised n es gs sides rest
+more_raised n es fs gs sides rest u v h r =
     record {
       belong = r.belong;
       live = r.live ∙ h.live;
@@ -99,13 +99,13 @@ more-raised n es fs gs sides rest u v h r =
       lefts = λ e. let a = h.lefts e in let b = r.lefts e in omega (arith, ints, a, b);
       rights = λ e. let a = h.rights e in let b = r.rights e in omega (arith, ints, a, b);
       along = λ end rest_is. h.along end (table_of gs, subst (λ (live : List Bool). IsRaised n live (table_of fs) (table_of gs) u v) h.live r.raised, rest_is);
-      keeps = λ p q s. keeps-settled n fs gs u v p q r (h.keeps p q s);
+      keeps = λ p q s. keeps_settled n fs gs u v p q r (h.keeps p q s);
       settled = λ p q has. ⊎_elim
           (λ left. ⊎_elim
-          (λ (is : (u, v) ≡ (p, q)). inr (subst (λ (s : ℕ × ℕ). IsSettled n gs s.0 s.1) is (now-settled n fs gs u v r)))
+          (λ (is : (u, v) ≡ (p, q)). inr (subst (λ (s : ℕ × ℕ). IsSettled n gs s.0 s.1) is (now_settled n fs gs u v r)))
           (λ later. inl later)
           (contains-cases (u, v) (p, q) rest left))
-          (λ s. inr (keeps-settled n fs gs u v p q r s))
+          (λ s. inr (keeps_settled n fs gs u v p q r s))
           (h.settled p q has);
     }
 
@@ -115,38 +115,38 @@ along-append n live [] ys a b c h k = subst (λ (t : PriceTable). IsRaisedAlong 
 along-append n live (x ∷ xs) ys a b c (next, first, rest) k = (next, first, along-append n live xs ys next b c rest k)
 
 -- a field of all entries, where it stays and where it grows
-field-same : (n : NetworkParts) (fs gs : List Entry) (e : ℕ) (x : Entry) (f : Entry → ℤ) (k : ℕ) → IsChange n fs gs e x → f x ≡ f (entry fs e) → f (entry gs k) ≡ f (entry fs k)
-field-same n fs gs e x f k c same =
+field_same : (n : NetworkParts) (fs gs : List Entry) (e : ℕ) (x : Entry) (f : Entry → ℤ) (k : ℕ) → IsChange n fs gs e x → f x ≡ f (entry fs e) → f (entry gs k) ≡ f (entry fs k)
+field_same n fs gs e x f k c same =
     ⊎_elim
-    (λ (is : k ≡ e). subst (λ (i : ℕ). f (entry gs i) ≡ f (entry fs i)) (sym is) (ap f (new-entry n fs gs e x c) ∙ same))
-    (λ (away : k ≢ e). ap f (other-entry n fs gs e x k c away))
+    (λ (is : k ≡ e). subst (λ (i : ℕ). f (entry gs i) ≡ f (entry fs i)) (sym is) (ap f (new_entry n fs gs e x c) ∙ same))
+    (λ (away : k ≢ e). ap f (other_entry n fs gs e x k c away))
     (cases_eq k e)
 
-field-more : (n : NetworkParts) (fs gs : List Entry) (e : ℕ) (x : Entry) (f : Entry → ℤ) (k : ℕ) → IsChange n fs gs e x → f (entry fs e) ≤ℤ f x → f (entry fs k) ≤ℤ f (entry gs k)
-field-more n fs gs e x f k c more =
+field_more : (n : NetworkParts) (fs gs : List Entry) (e : ℕ) (x : Entry) (f : Entry → ℤ) (k : ℕ) → IsChange n fs gs e x → f (entry fs e) ≤ℤ f x → f (entry fs k) ≤ℤ f (entry gs k)
+field_more n fs gs e x f k c more =
     ⊎_elim
-    (λ (is : k ≡ e). subst (λ (i : ℕ). f (entry fs i) ≤ℤ f (entry gs i)) (sym is) (let same = ap f (new-entry n fs gs e x c) in omega (arith, ints, same, more)))
-    (λ (away : k ≢ e). let same = ap f (other-entry n fs gs e x k c away) in omega (arith, ints, same))
+    (λ (is : k ≡ e). subst (λ (i : ℕ). f (entry fs i) ≤ℤ f (entry gs i)) (sym is) (let same = ap f (new_entry n fs gs e x c) in omega (arith, ints, same, more)))
+    (λ (away : k ≢ e). let same = ap f (other_entry n fs gs e x k c away) in omega (arith, ints, same))
     (cases_eq k e)
 
 abbrev pub table : List ℤ → List ℤ → List ℤ → PriceTable
 table values lefts rights = record { values = values; lefts = lefts; rights = rights }
 
-pub same-table : (a b c x y z : List ℤ) → a ≡ x → b ≡ y → c ≡ z → table a b c ≡ table x y z
-same-table a b c x y z e f g = cc
+pub same_table : (a b c x y z : List ℤ) → a ≡ x → b ≡ y → c ≡ z → table a b c ≡ table x y z
+same_table a b c x y z e f g = cc
 
 -- the list of a field with more at one place
-field-list : (fs : List Entry) (e : ℕ) (x : Entry) (m : ℤ) (f : Entry → ℤ) → f no_entry ≡ pos 0 → f x ≡ f (entry fs e) +ℤ m → map f (set fs e x) ≡ with_more (map f fs) e m
-field-list fs e x m f none is =
+field_list : (fs : List Entry) (e : ℕ) (x : Entry) (m : ℤ) (f : Entry → ℤ) → f no_entry ≡ pos 0 → f x ≡ f (entry fs e) +ℤ m → map f (set fs e x) ≡ with_more (map f fs) e m
+field_list fs e x m f none is =
     let at : get_or (map f fs) e (pos 0) ≡ f (entry fs e) = subst (λ (z : ℤ). get_or (map f fs) e z ≡ f (entry fs e)) none (get_or-mapped f fs e no_entry) in
     map-set f fs e x ∙ ap (set (map f fs) e) (is ∙ ap (λ z. z +ℤ m) (sym at))
 
-pub field-kept : (fs : List Entry) (e : ℕ) (x : Entry) (f : Entry → ℤ) → f x ≡ f (entry fs e) → map f (set fs e x) ≡ map f fs
-field-kept fs e x f is = same-field f fs e x (f no_entry) (get_or-mapped f fs e no_entry ∙ sym is)
+pub field_kept : (fs : List Entry) (e : ℕ) (x : Entry) (f : Entry → ℤ) → f x ≡ f (entry fs e) → map f (set fs e x) ≡ map f fs
+field_kept fs e x f is = same_field f fs e x (f no_entry) (get_or-mapped f fs e no_entry ∙ sym is)
 
 anchored-kept : (fs gs : List Entry) (e : ℕ) (x : Entry) → gs ≡ set fs e x → x.anchored ≡ (entry fs e).anchored → map (λ p. p.anchored) gs ≡ map (λ p. p.anchored) fs
 anchored-kept fs gs e x gs_is is =
-    ap (map (λ p. p.anchored)) gs_is ∙ same-field (λ p. p.anchored) fs e x false (get_or-mapped (λ (p : Entry). p.anchored) fs e no_entry ∙ sym is)
+    ap (map (λ p. p.anchored)) gs_is ∙ same_field (λ p. p.anchored) fs e x false (get_or-mapped (λ (p : Entry). p.anchored) fs e no_entry ∙ sym is)
 
 -- a raised left side
 pub left-raised : (n : NetworkParts) (fs gs : List Entry) (e : ℕ) → BelongTo n fs → BelongTo n gs → e < length n.edges → (entry fs e).anchored ≡ true
@@ -156,25 +156,25 @@ left-raised n fs gs e b after e_in anchored r =
     let x = left_raised p r.m in
     let inner = (b.each e e_in).inner anchored in
     let c : IsChange n fs gs e x = record { belong = b; e_in = e_in; is = r.entry_is; live = refl } in
-    let rise = left-rise n fs gs e r.m c inner.0 inner.1 r.least in
-    let some = (least-fits n fs (edge_at n e).a (edge_at n e).b r.m b r.least).0 in
+    let rise = left_rise n fs gs e r.m c inner.0 inner.1 r.least in
+    let some = (least_fits n fs (edge_at n e).a (edge_at n e).b r.m b r.least).0 in
     record {
       before = b;
       belong = after;
-      live = live-same n fs gs e x c;
+      live = live_same n fs gs e x c;
       anchored = anchored-kept fs gs e x r.entry_is refl;
-      prices = λ k out. field-same n fs gs e x (λ q. q.value) k c refl;
-      anchors = λ k. field-more n fs gs e x (λ q. q.value) k c (omega (arith, ints));
-      lefts = λ k. field-more n fs gs e x (λ q. q.left) k c (omega (arith, ints, some));
-      rights = λ k. field-more n fs gs e x (λ q. q.right) k c (omega (arith, ints));
+      prices = λ k out. field_same n fs gs e x (λ q. q.value) k c refl;
+      anchors = λ k. field_more n fs gs e x (λ q. q.value) k c (omega (arith, ints));
+      lefts = λ k. field_more n fs gs e x (λ q. q.left) k c (omega (arith, ints, some));
+      rights = λ k. field_more n fs gs e x (λ q. q.right) k c (omega (arith, ints));
       raised = record {
         e = e;
         number = rise.number;
         m = r.m;
         least = r.least;
         new_is = ap table_of r.entry_is
-            ∙ (same-table _ _ _ _ _ _ (field-kept fs e x (λ q. q.value) refl) (field-list fs e x r.m (λ q. q.left) refl refl) (field-kept fs e x (λ q. q.right) refl)
-            ∙ sym (cond-false (is_on_hull n.hull (edge_at n e).a (edge_at n e).b) _ _ (inner-off n e inner.1) ∙ cond-true _ _ _ (lt-ltb (edge_at n e).a (edge_at n e).b (edge_at n e).ascending)));
+            ∙ (same_table _ _ _ _ _ _ (field_kept fs e x (λ q. q.value) refl) (field_list fs e x r.m (λ q. q.left) refl refl) (field_kept fs e x (λ q. q.right) refl)
+            ∙ sym (cond-false (is_on_hull n.hull (edge_at n e).a (edge_at n e).b) _ _ (inner_off n e inner.1) ∙ cond-true _ _ _ (lt-ltb (edge_at n e).a (edge_at n e).b (edge_at n e).ascending)));
       };
       m = r.m;
       least = r.least;
@@ -189,26 +189,26 @@ right-raised n fs gs e b after e_in anchored r =
     let x = right_raised p r.m in
     let inner = (b.each e e_in).inner anchored in
     let c : IsChange n fs gs e x = record { belong = b; e_in = e_in; is = r.entry_is; live = refl } in
-    let rise = right-rise n fs gs e r.m c inner.0 inner.1 r.least in
-    let some = (least-fits n fs (edge_at n e).b (edge_at n e).a r.m b r.least).0 in
+    let rise = right_rise n fs gs e r.m c inner.0 inner.1 r.least in
+    let some = (least_fits n fs (edge_at n e).b (edge_at n e).a r.m b r.least).0 in
     let up = (edge_at n e).ascending in
     record {
       before = b;
       belong = after;
-      live = live-same n fs gs e x c;
+      live = live_same n fs gs e x c;
       anchored = anchored-kept fs gs e x r.entry_is refl;
-      prices = λ k out. field-same n fs gs e x (λ q. q.value) k c refl;
-      anchors = λ k. field-more n fs gs e x (λ q. q.value) k c (omega (arith, ints));
-      lefts = λ k. field-more n fs gs e x (λ q. q.left) k c (omega (arith, ints));
-      rights = λ k. field-more n fs gs e x (λ q. q.right) k c (omega (arith, ints, some));
+      prices = λ k out. field_same n fs gs e x (λ q. q.value) k c refl;
+      anchors = λ k. field_more n fs gs e x (λ q. q.value) k c (omega (arith, ints));
+      lefts = λ k. field_more n fs gs e x (λ q. q.left) k c (omega (arith, ints));
+      rights = λ k. field_more n fs gs e x (λ q. q.right) k c (omega (arith, ints, some));
       raised = record {
         e = e;
         number = rise.number;
         m = r.m;
         least = r.least;
         new_is = ap table_of r.entry_is
-            ∙ (same-table _ _ _ _ _ _ (field-kept fs e x (λ q. q.value) refl) (field-kept fs e x (λ q. q.left) refl) (field-list fs e x r.m (λ q. q.right) refl refl)
-            ∙ sym (cond-false (is_on_hull n.hull (edge_at n e).b (edge_at n e).a) _ _ (is_on_hull-comm n.hull (edge_at n e).a (edge_at n e).b ∙ inner-off n e inner.1)
+            ∙ (same_table _ _ _ _ _ _ (field_kept fs e x (λ q. q.value) refl) (field_kept fs e x (λ q. q.left) refl) (field_list fs e x r.m (λ q. q.right) refl refl)
+            ∙ sym (cond-false (is_on_hull n.hull (edge_at n e).b (edge_at n e).a) _ _ (is_on_hull-comm n.hull (edge_at n e).a (edge_at n e).b ∙ inner_off n e inner.1)
             ∙ cond-false _ _ _ (le-ltb (edge_at n e).b (edge_at n e).a (omega arith))));
       };
       m = r.m;
@@ -222,27 +222,27 @@ pub hull-raised : (n : NetworkParts) (fs gs : List Entry) (e u v : ℕ) → Belo
 hull-raised n fs gs e u v b after is pair r =
     let p = entry fs e in
     let x = hull_raised p r.m in
-    let hull = hull-of n e u v is pair in
+    let hull = hull_of n e u v is pair in
     let live = (b.each e is.0).hull_live hull in
     let c : IsChange n fs gs e x = record { belong = b; e_in = is.0; is = r.entry_is; live = refl } in
-    let rise = hull-rise n fs gs e u v r.m c live is pair r.least in
-    let some = (least-fits n fs u v r.m b r.least).0 in
+    let rise = hull_rise n fs gs e u v r.m c live is pair r.least in
+    let some = (least_fits n fs u v r.m b r.least).0 in
     record {
       before = b;
       belong = after;
-      live = live-same n fs gs e x c;
+      live = live_same n fs gs e x c;
       anchored = anchored-kept fs gs e x r.entry_is refl;
-      prices = λ k out. ap (λ (q : Entry). q.value) (other-entry n fs gs e x k c (λ same. out (subst (IsHullNumber n) (sym same) hull)));
-      anchors = λ k. field-more n fs gs e x (λ q. q.value) k c (omega (arith, ints, some));
-      lefts = λ k. field-more n fs gs e x (λ q. q.left) k c (omega (arith, ints));
-      rights = λ k. field-more n fs gs e x (λ q. q.right) k c (omega (arith, ints));
+      prices = λ k out. ap (λ (q : Entry). q.value) (other_entry n fs gs e x k c (λ same. out (subst (IsHullNumber n) (sym same) hull)));
+      anchors = λ k. field_more n fs gs e x (λ q. q.value) k c (omega (arith, ints, some));
+      lefts = λ k. field_more n fs gs e x (λ q. q.left) k c (omega (arith, ints));
+      rights = λ k. field_more n fs gs e x (λ q. q.right) k c (omega (arith, ints));
       raised = record {
         e = e;
         number = is;
         m = r.m;
         least = r.least;
         new_is = ap table_of r.entry_is
-            ∙ (same-table _ _ _ _ _ _ (field-list fs e x r.m (λ q. q.value) refl refl) (field-kept fs e x (λ q. q.left) refl) (field-kept fs e x (λ q. q.right) refl)
+            ∙ (same_table _ _ _ _ _ _ (field_list fs e x r.m (λ q. q.value) refl refl) (field_kept fs e x (λ q. q.left) refl) (field_kept fs e x (λ q. q.right) refl)
             ∙ sym (cond-true (is_on_hull n.hull u v) _ _ ((is_on_hull_decides n.hull u v).1 (inl pair))));
       };
       m = r.m;

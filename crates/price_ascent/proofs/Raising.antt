@@ -13,17 +13,17 @@ use Rattle.price_ascent.specs.Ascent.{IsLeastSlack}
 use Rattle.price_ascent.specs.Belonging.{BelongTo, IsBareSide}
 use Rattle.price_ascent.specs.Entries.{entry, prices_of}
 use Rattle.price_ascent.specs.Steps.{hull_raised, left_raised, right_raised}
-use Rattle.price_ascent.proofs.Changed.{IsChange, bare-back, belong-changed, hull-of, new-entry, one-each, which-side}
-use Rattle.price_ascent.proofs.LiveSides.{none-outside}
-use Rattle.price_ascent.proofs.Lowering.{inner-off}
-use Rattle.price_ascent.proofs.Rises.{IsRise, anchor-fits, anchor-fits-up, bare-least, risen, same-or-turned}
-use Rattle.price_ascent.proofs.Shares.{HasShares, has-shares, on_hull, own-shares}
+use Rattle.price_ascent.proofs.Changed.{IsChange, bare_back, belong_changed, hull_of, new_entry, one-each, which_side}
+use Rattle.price_ascent.proofs.LiveSides.{none_outside}
+use Rattle.price_ascent.proofs.Lowering.{inner_off}
+use Rattle.price_ascent.proofs.Rises.{IsRise, anchor_fits, anchor_fits_up, bare_least, risen, same_or_turned}
+use Rattle.price_ascent.proofs.Shares.{HasShares, has_shares, on_hull, own_shares}
 
 -- the shares of the new entry
-new-shares : (n : NetworkParts) (es fs : List Entry) (e : ℕ) (x : Entry) → IsChange n es fs e x → (entry es e).live ≡ true
+new_shares : (n : NetworkParts) (es fs : List Entry) (e : ℕ) (x : Entry) → IsChange n es fs e x → (entry es e).live ≡ true
     → HasShares n fs e (share n.points n.hull (prices_of n fs) (edge_at n e).a (edge_at n e).b) (share n.points n.hull (prices_of n fs) (edge_at n e).b (edge_at n e).a)
-new-shares n es fs e x c live =
-    has-shares n fs e c.belong.network (one-each n es fs e x c) c.e_in (ap (λ (p : Entry). p.live) (new-entry n es fs e x c) ∙ (c.live ∙ live))
+new_shares n es fs e x c live =
+    has_shares n fs e c.belong.network (one-each n es fs e x c) c.e_in (ap (λ (p : Entry). p.live) (new_entry n es fs e x c) ∙ (c.live ∙ live))
 
 -- the shares of both sides after a raise
 abbrev AreNewShares : NetworkParts → List Entry → ℕ → Entry → Type 0
@@ -31,29 +31,29 @@ AreNewShares n fs e x =
     (x.up ≡ share n.points n.hull (prices_of n fs) (edge_at n e).a (edge_at n e).b)
     × (x.down ≡ share n.points n.hull (prices_of n fs) (edge_at n e).b (edge_at n e).a)
 
-pub hull-on : (n : NetworkParts) (e : ℕ) → IsHullNumber n e → on_hull n e ≡ true
-hull-on n e hull = (is_on_hull_decides n.hull (edge_at n e).a (edge_at n e).b).1 hull
+pub hull_on : (n : NetworkParts) (e : ℕ) → IsHullNumber n e → on_hull n e ≡ true
+hull_on n e hull = (is_on_hull_decides n.hull (edge_at n e).a (edge_at n e).b).1 hull
 
-hull-shares : (n : NetworkParts) (es fs : List Entry) (e : ℕ) (m : ℤ) → IsChange n es fs e (hull_raised (entry es e) m) → (entry es e).live ≡ true → IsHullNumber n e
+hull_shares : (n : NetworkParts) (es fs : List Entry) (e : ℕ) (m : ℤ) → IsChange n es fs e (hull_raised (entry es e) m) → (entry es e).live ≡ true → IsHullNumber n e
     → AreNewShares n fs e (hull_raised (entry es e) m)
-hull-shares n es fs e m c live hull =
-    let on = hull-on n e hull in
-    let old = own-shares n es e c.belong c.e_in live in
-    let new = new-shares n es fs e (hull_raised (entry es e) m) c live in
-    let value = ap (λ (p : Entry). p.value) (new-entry n es fs e (hull_raised (entry es e) m) c) in
+hull_shares n es fs e m c live hull =
+    let on = hull_on n e hull in
+    let old = own_shares n es e c.belong c.e_in live in
+    let new = new_shares n es fs e (hull_raised (entry es e) m) c live in
+    let value = ap (λ (p : Entry). p.value) (new_entry n es fs e (hull_raised (entry es e) m) c) in
     let old_up = old.on_up on in
     let old_down = old.on_down on in
     let new_up = new.on_up on in
     let new_down = new.on_down on in
     (omega (arith, ints, old_up, new_up, value), omega (arith, ints, old_down, new_down, value))
 
-left-shares : (n : NetworkParts) (es fs : List Entry) (e : ℕ) (m : ℤ) → IsChange n es fs e (left_raised (entry es e) m) → (entry es e).live ≡ true → ¬ IsHullNumber n e
+left_shares : (n : NetworkParts) (es fs : List Entry) (e : ℕ) (m : ℤ) → IsChange n es fs e (left_raised (entry es e) m) → (entry es e).live ≡ true → ¬ IsHullNumber n e
     → AreNewShares n fs e (left_raised (entry es e) m)
-left-shares n es fs e m c live inner =
-    let off = inner-off n e inner in
-    let old = own-shares n es e c.belong c.e_in live in
-    let new = new-shares n es fs e (left_raised (entry es e) m) c live in
-    let is = new-entry n es fs e (left_raised (entry es e) m) c in
+left_shares n es fs e m c live inner =
+    let off = inner_off n e inner in
+    let old = own_shares n es e c.belong c.e_in live in
+    let new = new_shares n es fs e (left_raised (entry es e) m) c live in
+    let is = new_entry n es fs e (left_raised (entry es e) m) c in
     let value = ap (λ (p : Entry). p.value) is in
     let left = ap (λ (p : Entry). p.left) is in
     let right = ap (λ (p : Entry). p.right) is in
@@ -63,13 +63,13 @@ left-shares n es fs e m c live inner =
     let new_down = new.off_down off in
     (omega (arith, ints, old_up, new_up, value, left), omega (arith, ints, old_down, new_down, value, right))
 
-right-shares : (n : NetworkParts) (es fs : List Entry) (e : ℕ) (m : ℤ) → IsChange n es fs e (right_raised (entry es e) m) → (entry es e).live ≡ true → ¬ IsHullNumber n e
+right_shares : (n : NetworkParts) (es fs : List Entry) (e : ℕ) (m : ℤ) → IsChange n es fs e (right_raised (entry es e) m) → (entry es e).live ≡ true → ¬ IsHullNumber n e
     → AreNewShares n fs e (right_raised (entry es e) m)
-right-shares n es fs e m c live inner =
-    let off = inner-off n e inner in
-    let old = own-shares n es e c.belong c.e_in live in
-    let new = new-shares n es fs e (right_raised (entry es e) m) c live in
-    let is = new-entry n es fs e (right_raised (entry es e) m) c in
+right_shares n es fs e m c live inner =
+    let off = inner_off n e inner in
+    let old = own_shares n es e c.belong c.e_in live in
+    let new = new_shares n es fs e (right_raised (entry es e) m) c live in
+    let is = new_entry n es fs e (right_raised (entry es e) m) c in
     let value = ap (λ (p : Entry). p.value) is in
     let left = ap (λ (p : Entry). p.left) is in
     let right = ap (λ (p : Entry). p.right) is in
@@ -80,13 +80,13 @@ right-shares n es fs e m c live inner =
     (omega (arith, ints, old_up, new_up, value, left), omega (arith, ints, old_down, new_down, value, right))
 
 -- the left side of an inner edge
-pub left-rise : (n : NetworkParts) (es fs : List Entry) (e : ℕ) (m : ℤ) → IsChange n es fs e (left_raised (entry es e) m) → (entry es e).live ≡ true → ¬ IsHullNumber n e
+pub left_rise : (n : NetworkParts) (es fs : List Entry) (e : ℕ) (m : ℤ) → IsChange n es fs e (left_raised (entry es e) m) → (entry es e).live ≡ true → ¬ IsHullNumber n e
     → IsLeastSlack n.points n.hull (prices_of n es) (edge_at n e).a (edge_at n e).b m
     → IsRise n es fs e (edge_at n e).a (edge_at n e).b m (left_raised (entry es e) m)
-left-rise n es fs e m c live inner least =
+left_rise n es fs e m c live inner least =
     let old_up = (c.belong.each e c.e_in).up live in
     let old_down = (c.belong.each e c.e_in).down live in
-    let new = left-shares n es fs e m c live inner in
+    let new = left_shares n es fs e m c live inner in
     let new_up = new.0 in
     let new_down = new.1 in
     record {
@@ -98,47 +98,47 @@ left-rise n es fs e m c live inner least =
       back = λ t over side. sym new_down ∙ old_down;
     }
 
-pub left-belong : (n : NetworkParts) (es fs : List Entry) (e : ℕ) (m : ℤ) → IsChange n es fs e (left_raised (entry es e) m) → (entry es e).live ≡ true → (entry es e).anchored ≡ true → ¬ IsHullNumber n e
+pub left_belong : (n : NetworkParts) (es fs : List Entry) (e : ℕ) (m : ℤ) → IsChange n es fs e (left_raised (entry es e) m) → (entry es e).live ≡ true → (entry es e).anchored ≡ true → ¬ IsHullNumber n e
     → IsLeastSlack n.points n.hull (prices_of n es) (edge_at n e).a (edge_at n e).b m → BelongTo n fs
-left-belong n es fs e m c live anchored inner least =
+left_belong n es fs e m c live anchored inner least =
     let x = left_raised (entry es e) m in
     let h = c.belong.each e c.e_in in
     let a = (edge_at n e).a in
     let b = (edge_at n e).b in
-    let old = (own-shares n es e c.belong c.e_in live).off_up (inner-off n e inner) in
+    let old = (own_shares n es e c.belong c.e_in live).off_up (inner_off n e inner) in
     let up = h.up live in
     let low = (h.price inner).0 in
     let light = c.belong.light e c.e_in live in
-    belong-changed n es fs e x c
+    belong_changed n es fs e x c
     (record {
       price = h.price;
       anchor = h.anchor;
-      left = anchor-fits-up n es a b m (entry es e).left c.belong least h.left (edge_at n e).ascending (omega (arith, ints, old, up, low, light));
+      left = anchor_fits_up n es a b m (entry es e).left c.belong least h.left (edge_at n e).ascending (omega (arith, ints, old, up, low, light));
       right = h.right;
-      up = λ alive. (left-shares n es fs e m c live inner).0;
-      down = λ alive. (left-shares n es fs e m c live inner).1;
+      up = λ alive. (left_shares n es fs e m c live inner).0;
+      down = λ alive. (left_shares n es fs e m c live inner).1;
       killed = h.killed;
       hull_live = h.hull_live;
       inner = h.inner;
       elsewhere = λ not. absurd (false≢true (sym not ∙ anchored));
-      bare_hull = λ u v is pair bare. h.bare_hull u v is pair (bare-back n es fs e x u v c bare);
+      bare_hull = λ u v is pair bare. h.bare_hull u v is pair (bare_back n es fs e x u v c bare);
       bare_left = λ bare.
-          let none = bare-back n es fs e x a b c bare in
+          let none = bare_back n es fs e x a b c bare in
           let zero = h.bare_left none in
-          let least_zero = bare-least n es a b m least none in
+          let least_zero = bare_least n es a b m least none in
           omega (arith, ints, zero, least_zero);
-      bare_right = λ bare. h.bare_right (bare-back n es fs e x b a c bare);
+      bare_right = λ bare. h.bare_right (bare_back n es fs e x b a c bare);
     })
-    (risen n es fs e a b m x (left-rise n es fs e m c live inner least)).feasible
+    (risen n es fs e a b m x (left_rise n es fs e m c live inner least)).feasible
 
 -- the right side of an inner edge
-pub right-rise : (n : NetworkParts) (es fs : List Entry) (e : ℕ) (m : ℤ) → IsChange n es fs e (right_raised (entry es e) m) → (entry es e).live ≡ true → ¬ IsHullNumber n e
+pub right_rise : (n : NetworkParts) (es fs : List Entry) (e : ℕ) (m : ℤ) → IsChange n es fs e (right_raised (entry es e) m) → (entry es e).live ≡ true → ¬ IsHullNumber n e
     → IsLeastSlack n.points n.hull (prices_of n es) (edge_at n e).b (edge_at n e).a m
     → IsRise n es fs e (edge_at n e).b (edge_at n e).a m (right_raised (entry es e) m)
-right-rise n es fs e m c live inner least =
+right_rise n es fs e m c live inner least =
     let old_up = (c.belong.each e c.e_in).up live in
     let old_down = (c.belong.each e c.e_in).down live in
-    let new = right-shares n es fs e m c live inner in
+    let new = right_shares n es fs e m c live inner in
     let new_up = new.0 in
     let new_down = new.1 in
     record {
@@ -150,45 +150,45 @@ right-rise n es fs e m c live inner least =
       back = λ t over side. sym new_up ∙ old_up;
     }
 
-pub right-belong : (n : NetworkParts) (es fs : List Entry) (e : ℕ) (m : ℤ) → IsChange n es fs e (right_raised (entry es e) m) → (entry es e).live ≡ true → (entry es e).anchored ≡ true → ¬ IsHullNumber n e
+pub right_belong : (n : NetworkParts) (es fs : List Entry) (e : ℕ) (m : ℤ) → IsChange n es fs e (right_raised (entry es e) m) → (entry es e).live ≡ true → (entry es e).anchored ≡ true → ¬ IsHullNumber n e
     → IsLeastSlack n.points n.hull (prices_of n es) (edge_at n e).b (edge_at n e).a m → BelongTo n fs
-right-belong n es fs e m c live anchored inner least =
+right_belong n es fs e m c live anchored inner least =
     let x = right_raised (entry es e) m in
     let h = c.belong.each e c.e_in in
     let a = (edge_at n e).a in
     let b = (edge_at n e).b in
-    let old = (own-shares n es e c.belong c.e_in live).off_down (inner-off n e inner) in
+    let old = (own_shares n es e c.belong c.e_in live).off_down (inner_off n e inner) in
     let down = h.down live in
     let high = (h.price inner).1 in
-    belong-changed n es fs e x c
+    belong_changed n es fs e x c
     (record {
       price = h.price;
       anchor = h.anchor;
       left = h.left;
-      right = anchor-fits n es b a m (entry es e).right c.belong least h.right (omega (arith, ints, old, down, high));
-      up = λ alive. (right-shares n es fs e m c live inner).0;
-      down = λ alive. (right-shares n es fs e m c live inner).1;
+      right = anchor_fits n es b a m (entry es e).right c.belong least h.right (omega (arith, ints, old, down, high));
+      up = λ alive. (right_shares n es fs e m c live inner).0;
+      down = λ alive. (right_shares n es fs e m c live inner).1;
       killed = h.killed;
       hull_live = h.hull_live;
       inner = h.inner;
       elsewhere = λ not. absurd (false≢true (sym not ∙ anchored));
-      bare_hull = λ u v is pair bare. h.bare_hull u v is pair (bare-back n es fs e x u v c bare);
-      bare_left = λ bare. h.bare_left (bare-back n es fs e x a b c bare);
+      bare_hull = λ u v is pair bare. h.bare_hull u v is pair (bare_back n es fs e x u v c bare);
+      bare_left = λ bare. h.bare_left (bare_back n es fs e x a b c bare);
       bare_right = λ bare.
-          let none = bare-back n es fs e x b a c bare in
+          let none = bare_back n es fs e x b a c bare in
           let zero = h.bare_right none in
-          let least_zero = bare-least n es b a m least none in
+          let least_zero = bare_least n es b a m least none in
           omega (arith, ints, zero, least_zero);
     })
-    (risen n es fs e b a m x (right-rise n es fs e m c live inner least)).feasible
+    (risen n es fs e b a m x (right_rise n es fs e m c live inner least)).feasible
 
 -- a pair of the hull
-pub hull-rise : (n : NetworkParts) (es fs : List Entry) (e u v : ℕ) (m : ℤ) → IsChange n es fs e (hull_raised (entry es e) m) → (entry es e).live ≡ true → IsNumberOf n u v e → IsHullPair n.hull u v
+pub hull_rise : (n : NetworkParts) (es fs : List Entry) (e u v : ℕ) (m : ℤ) → IsChange n es fs e (hull_raised (entry es e) m) → (entry es e).live ≡ true → IsNumberOf n u v e → IsHullPair n.hull u v
     → IsLeastSlack n.points n.hull (prices_of n es) u v m → IsRise n es fs e u v m (hull_raised (entry es e) m)
-hull-rise n es fs e u v m c live is pair least =
+hull_rise n es fs e u v m c live is pair least =
     let old_up = (c.belong.each e c.e_in).up live in
     let old_down = (c.belong.each e c.e_in).down live in
-    let new = hull-shares n es fs e m c live (hull-of n e u v is pair) in
+    let new = hull_shares n es fs e m c live (hull_of n e u v is pair) in
     let new_up = new.0 in
     let new_down = new.1 in
     let f = share n.points n.hull (prices_of n es) in
@@ -205,34 +205,34 @@ hull-rise n es fs e u v m c live is pair least =
       less = ⊎_elim
           (λ (s : (u ≡ a) × (v ≡ b)). subst (λ (x : ℕ). g x v ≡ f x v -ℤ m) (sym s.0) (subst (λ (y : ℕ). g a y ≡ f a y -ℤ m) (sym s.1) up))
           (λ (s : (u ≡ b) × (v ≡ a)). subst (λ (x : ℕ). g x v ≡ f x v -ℤ m) (sym s.0) (subst (λ (y : ℕ). g b y ≡ f b y -ℤ m) (sym s.1) down))
-          (which-side n e u v is);
-      back = λ t over side. absurd (none-outside n t u v c.belong.network pair over.empty side);
+          (which_side n e u v is);
+      back = λ t over side. absurd (none_outside n t u v c.belong.network pair over.empty side);
     }
 
 -- a bare pair of the edge leaves no slack to take
-hull-bare : (n : NetworkParts) (es : List Entry) (e u v p q : ℕ) (m : ℤ) → BelongTo n es → IsNumberOf n u v e → IsHullPair n.hull u v → IsNumberOf n p q e → IsHullPair n.hull p q
+hull_bare : (n : NetworkParts) (es : List Entry) (e u v p q : ℕ) (m : ℤ) → BelongTo n es → IsNumberOf n u v e → IsHullPair n.hull u v → IsNumberOf n p q e → IsHullPair n.hull p q
     → IsLeastSlack n.points n.hull (prices_of n es) u v m → IsBareSide n.points (prices_of n es) p q → m ≡ pos 0
-hull-bare n es e u v p q m b is pair other other_pair least bare =
-    bare-least n es u v m least
+hull_bare n es e u v p q m b is pair other other_pair least bare =
+    bare_least n es u v m least
     (λ t on. ⊎_elim
     (λ (s : (p ≡ u) × (q ≡ v)). bare t (subst (λ (x : ℕ). HasSide t x q) (sym s.0) (subst (λ (y : ℕ). HasSide t u y) (sym s.1) on.0), on.1))
     (λ (s : (p ≡ v) × (q ≡ u)).
-    none-outside n t p q b.network other_pair on.1.empty (subst (λ (x : ℕ). HasSide t x p) (sym s.1) (subst (λ (y : ℕ). HasSide t u y) (sym s.0) on.0)))
-    (same-or-turned n e u v p q is other))
+    none_outside n t p q b.network other_pair on.1.empty (subst (λ (x : ℕ). HasSide t x p) (sym s.1) (subst (λ (y : ℕ). HasSide t u y) (sym s.0) on.0)))
+    (same_or_turned n e u v p q is other))
 
-pub hull-belong : (n : NetworkParts) (es fs : List Entry) (e u v : ℕ) (m : ℤ) → IsChange n es fs e (hull_raised (entry es e) m) → (entry es e).live ≡ true → IsNumberOf n u v e → IsHullPair n.hull u v
+pub hull_belong : (n : NetworkParts) (es fs : List Entry) (e u v : ℕ) (m : ℤ) → IsChange n es fs e (hull_raised (entry es e) m) → (entry es e).live ≡ true → IsNumberOf n u v e → IsHullPair n.hull u v
     → IsLeastSlack n.points n.hull (prices_of n es) u v m → BelongTo n fs
-hull-belong n es fs e u v m c live is pair least =
+hull_belong n es fs e u v m c live is pair least =
     let x = hull_raised (entry es e) m in
     let h = c.belong.each e c.e_in in
-    let hull = hull-of n e u v is pair in
+    let hull = hull_of n e u v is pair in
     let a = (edge_at n e).a in
     let b = (edge_at n e).b in
     let f = share n.points n.hull (prices_of n es) in
     let light = c.belong.light e c.e_in live in
-    let own = own-shares n es e c.belong c.e_in live in
-    let old_up = own.on_up (hull-on n e hull) in
-    let old_down = own.on_down (hull-on n e hull) in
+    let own = own_shares n es e c.belong c.e_in live in
+    let old_up = own.on_up (hull_on n e hull) in
+    let old_down = own.on_down (hull_on n e hull) in
     let up = h.up live in
     let down = h.down live in
     let y = (entry es e).value in
@@ -242,25 +242,25 @@ hull-belong n es fs e u v m c live is pair least =
     = ⊎_elim
     (λ (s : (u ≡ a) × (v ≡ b)). subst (λ (z : ℕ). (f z v +ℤ y) ≤ℤ pos (3 * 10 ^ 15)) (sym s.0) (subst (λ (z : ℕ). (f a z +ℤ y) ≤ℤ pos (3 * 10 ^ 15)) (sym s.1) gross_up))
     (λ (s : (u ≡ b) × (v ≡ a)). subst (λ (z : ℕ). (f z v +ℤ y) ≤ℤ pos (3 * 10 ^ 15)) (sym s.0) (subst (λ (z : ℕ). (f b z +ℤ y) ≤ℤ pos (3 * 10 ^ 15)) (sym s.1) gross_down))
-    (which-side n e u v is) in
-    belong-changed n es fs e x c
+    (which_side n e u v is) in
+    belong_changed n es fs e x c
     (record {
       price = λ inner. absurd (inner hull);
-      anchor = λ on. anchor-fits n es u v m y c.belong least (h.anchor hull) gross;
+      anchor = λ on. anchor_fits n es u v m y c.belong least (h.anchor hull) gross;
       left = h.left;
       right = h.right;
-      up = λ alive. (hull-shares n es fs e m c live hull).0;
-      down = λ alive. (hull-shares n es fs e m c live hull).1;
+      up = λ alive. (hull_shares n es fs e m c live hull).0;
+      down = λ alive. (hull_shares n es fs e m c live hull).1;
       killed = λ dead. absurd (false≢true (sym dead ∙ live));
       hull_live = h.hull_live;
       inner = h.inner;
       elsewhere = h.elsewhere;
       bare_hull = λ p q other other_pair bare.
-          let none = bare-back n es fs e x p q c bare in
+          let none = bare_back n es fs e x p q c bare in
           let zero = h.bare_hull p q other other_pair none in
-          let least_zero = hull-bare n es e u v p q m c.belong is pair other other_pair least none in
+          let least_zero = hull_bare n es e u v p q m c.belong is pair other other_pair least none in
           omega (arith, ints, zero, least_zero);
-      bare_left = λ bare. h.bare_left (bare-back n es fs e x a b c bare);
-      bare_right = λ bare. h.bare_right (bare-back n es fs e x b a c bare);
+      bare_left = λ bare. h.bare_left (bare_back n es fs e x a b c bare);
+      bare_right = λ bare. h.bare_right (bare_back n es fs e x b a c bare);
     })
-    (risen n es fs e u v m x (hull-rise n es fs e u v m c live is pair least)).feasible
+    (risen n es fs e u v m x (hull_rise n es fs e u v m c live is pair least)).feasible

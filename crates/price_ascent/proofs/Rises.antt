@@ -10,10 +10,10 @@ use Rattle.price_ascent.specs.declared.entry.Entry.{Entry}
 use Rattle.price_ascent.specs.Ascent.{IsLeastSlack, IsLiveOn}
 use Rattle.price_ascent.specs.Belonging.{BelongTo, IsAnchor, IsBareSide}
 use Rattle.price_ascent.specs.Entries.{entry, prices_of}
-use Rattle.price_ascent.proofs.Changed.{IsChange, live-back, share-other, which-side}
-use Rattle.price_ascent.proofs.Changes.{AreUpTo, side-or-not, with-side, without-side}
-use Rattle.price_ascent.proofs.LiveSides.{side-number}
-use Rattle.price_ascent.proofs.SlackBounds.{least-fits, slack-beside, slack-beside-up}
+use Rattle.price_ascent.proofs.Changed.{IsChange, live_back, share-other, which_side}
+use Rattle.price_ascent.proofs.Changes.{AreUpTo, side_or_not, with_side, without_side}
+use Rattle.price_ascent.proofs.LiveSides.{side_number}
+use Rattle.price_ascent.proofs.SlackBounds.{least_fits, slack-beside, slack-beside_up}
 
 -- What a raise of the anchor of the side u to v of the edge e changes: the share of this side alone.
 pub record IsRise (n : NetworkParts) (es fs : List Entry) (e u v : ℕ) (m : ℤ) (x : Entry) : Type 0 where
@@ -26,24 +26,24 @@ pub record IsRise (n : NetworkParts) (es fs : List Entry) (e u v : ℕ) (m : ℤ
       → share n.points n.hull (prices_of n fs) v u ≡ share n.points n.hull (prices_of n es) v u
 
 -- two sides of one edge are the same or turned
-pub same-or-turned : (n : NetworkParts) (e u v p q : ℕ) → IsNumberOf n u v e → IsNumberOf n p q e → ((p ≡ u) × (q ≡ v)) ⊎ ((p ≡ v) × (q ≡ u))
-same-or-turned n e u v p q is other =
+pub same_or_turned : (n : NetworkParts) (e u v p q : ℕ) → IsNumberOf n u v e → IsNumberOf n p q e → ((p ≡ u) × (q ≡ v)) ⊎ ((p ≡ v) × (q ≡ u))
+same_or_turned n e u v p q is other =
     ⊎_elim
     (λ s. ⊎_elim
     (λ t. inl (t.0 ∙ sym s.0, t.1 ∙ sym s.1))
     (λ t. inr (t.0 ∙ sym s.1, t.1 ∙ sym s.0))
-    (which-side n e p q other))
+    (which_side n e p q other))
     (λ s. ⊎_elim
     (λ t. inr (t.0 ∙ sym s.1, t.1 ∙ sym s.0))
     (λ t. inl (t.0 ∙ sym s.0, t.1 ∙ sym s.1))
-    (which-side n e p q other))
-    (which-side n e u v is)
+    (which_side n e p q other))
+    (which_side n e u v is)
 
 -- the shares of all other sides of a live triangle stay
-risen-sides : (n : NetworkParts) (es fs : List Entry) (e u v : ℕ) (m : ℤ) (x : Entry) (t : Tri) → IsRise n es fs e u v m x → IsLiveTriangle n.points (prices_of n es) t
+risen_sides : (n : NetworkParts) (es fs : List Entry) (e u v : ℕ) (m : ℤ) (x : Entry) (t : Tri) → IsRise n es fs e u v m x → IsLiveTriangle n.points (prices_of n es) t
     → (p q : ℕ) → HasSide t p q → ((p ≡ u) × (q ≡ v)) ⊎ (share n.points n.hull (prices_of n fs) p q ≡ share n.points n.hull (prices_of n es) p q)
-risen-sides n es fs e u v m x t r over p q side =
-    let k = side-number n es t p q r.change.belong.one_each over side in
+risen_sides n es fs e u v m x t r over p q side =
+    let k = side_number n es t p q r.change.belong.one_each over side in
     let f = share n.points n.hull (prices_of n es) in
     let g = share n.points n.hull (prices_of n fs) in
     ⊎_elim
@@ -53,7 +53,7 @@ risen-sides n es fs e u v m x t r over p q side =
     (λ (s : (p ≡ v) × (q ≡ u)).
     let turned : HasSide t v u = subst (λ (y : ℕ). HasSide t y u) s.0 (subst (λ (y : ℕ). HasSide t p y) s.1 side) in
     inr (subst (λ (y : ℕ). g y q ≡ f y q) (sym s.0) (subst (λ (y : ℕ). g v y ≡ f v y) (sym s.1) (r.back t over turned))))
-    (same-or-turned n e u v p q r.number (subst (λ (i : ℕ). IsNumberOf n p q i) same k.1)))
+    (same_or_turned n e u v p q r.number (subst (λ (i : ℕ). IsNumberOf n p q i) same k.1)))
     (λ (away : k.0 ≢ e). inr (share-other n es fs e x k.0 p q r.change away k.2 k.1))
     (cases_eq k.0 e)
 
@@ -63,14 +63,14 @@ pub record AreRisen (n : NetworkParts) (es fs : List Entry) (u v : ℕ) (m : ℤ
   pub never : (t : Tri) → IsLiveTriangle n.points (prices_of n es) t → slack n.points n.hull (prices_of n fs) t ≤ℤ slack n.points n.hull (prices_of n es) t
   pub drops : (t : Tri) → IsLiveTriangle n.points (prices_of n es) t → HasSide t u v → (slack n.points n.hull (prices_of n fs) t +ℤ m) ≤ℤ slack n.points n.hull (prices_of n es) t
 
-risen-drops : (n : NetworkParts) (es fs : List Entry) (e u v : ℕ) (m : ℤ) (x : Entry) (t : Tri) → IsRise n es fs e u v m x → IsLiveTriangle n.points (prices_of n es) t
+risen_drops : (n : NetworkParts) (es fs : List Entry) (e u v : ℕ) (m : ℤ) (x : Entry) (t : Tri) → IsRise n es fs e u v m x → IsLiveTriangle n.points (prices_of n es) t
     → HasSide t u v → (slack n.points n.hull (prices_of n fs) t +ℤ m) ≤ℤ slack n.points n.hull (prices_of n es) t
-risen-drops n es fs e u v m x t r over side =
+risen_drops n es fs e u v m x t r over side =
     let f = share n.points n.hull (prices_of n es) in
     let g = share n.points n.hull (prices_of n fs) in
     let less = r.less in
-    with-side g f u v m t
-    (λ p q s. ⊎_elim (λ i. inl i) (λ (is : g p q ≡ f p q). inr (omega (arith, ints, is))) (risen-sides n es fs e u v m x t r over p q s))
+    with_side g f u v m t
+    (λ p q s. ⊎_elim (λ i. inl i) (λ (is : g p q ≡ f p q). inr (omega (arith, ints, is))) (risen_sides n es fs e u v m x t r over p q s))
     (omega (arith, ints, less)) side
 
 pub risen : (n : NetworkParts) (es fs : List Entry) (e u v : ℕ) (m : ℤ) (x : Entry) → IsRise n es fs e u v m x → AreRisen n es fs u v m
@@ -79,13 +79,13 @@ risen n es fs e u v m x r =
     let g = share n.points n.hull (prices_of n fs) in
     record {
       feasible = λ t over.
-          let was = live-back n es fs e x t r.change over in
-          let each : AreUpTo f g u v t = λ p q s. ⊎_elim (λ i. inl i) (λ (is : g p q ≡ f p q). inr (omega (arith, ints, is))) (risen-sides n es fs e u v m x t r was p q s) in
+          let was = live_back n es fs e x t r.change over in
+          let each : AreUpTo f g u v t = λ p q s. ⊎_elim (λ i. inl i) (λ (is : g p q ≡ f p q). inr (omega (arith, ints, is))) (risen_sides n es fs e u v m x t r was p q s) in
           let old = r.change.belong.feasible t was in
           ⊎_elim
           (λ (side : HasSide t u v).
           let less = r.less in
-          let all = with-side f g u v (pos 0 -ℤ m) t each (omega (arith, ints, less)) side in
+          let all = with_side f g u v (pos 0 -ℤ m) t each (omega (arith, ints, less)) side in
           ⊎_elim
           (λ (h : ((t : Tri) × IsLiveOn n.points (prices_of n es) u v t × (slack n.points n.hull (prices_of n es) t ≡ m))
           × ((t : Tri) → IsLiveOn n.points (prices_of n es) u v t → m ≤ℤ slack n.points n.hull (prices_of n es) t)).
@@ -93,24 +93,24 @@ risen n es fs e u v m x r =
           omega (arith, ints, all, least))
           (λ (h : ((t : Tri) → ¬ IsLiveOn n.points (prices_of n es) u v t) × (m ≡ pos 0)). absurd (h.0 t (side, was)))
           r.least)
-          (λ (none : ¬ HasSide t u v). let all = without-side f g u v t each none in omega (arith, ints, all, old))
-          (side-or-not t u v);
+          (λ (none : ¬ HasSide t u v). let all = without_side f g u v t each none in omega (arith, ints, all, old))
+          (side_or_not t u v);
       never = λ t over.
           ⊎_elim
           (λ (side : HasSide t u v).
-          let drop = risen-drops n es fs e u v m x t r over side in
-          let some = (least-fits n es u v m r.change.belong r.least).0 in
+          let drop = risen_drops n es fs e u v m x t r over side in
+          let some = (least_fits n es u v m r.change.belong r.least).0 in
           omega (arith, ints, drop, some))
-          (λ (none : ¬ HasSide t u v). without-side g f u v t
-          (λ p q s. ⊎_elim (λ i. inl i) (λ (is : g p q ≡ f p q). inr (omega (arith, ints, is))) (risen-sides n es fs e u v m x t r over p q s))
+          (λ (none : ¬ HasSide t u v). without_side g f u v t
+          (λ p q s. ⊎_elim (λ i. inl i) (λ (is : g p q ≡ f p q). inr (omega (arith, ints, is))) (risen_sides n es fs e u v m x t r over p q s))
           none)
-          (side-or-not t u v);
-      drops = λ t over side. risen-drops n es fs e u v m x t r over side;
+          (side_or_not t u v);
+      drops = λ t over side. risen_drops n es fs e u v m x t r over side;
     }
 
 -- where no live triangle has the side, the least slack is 0
-pub bare-least : (n : NetworkParts) (es : List Entry) (u v : ℕ) (m : ℤ) → IsLeastSlack n.points n.hull (prices_of n es) u v m → IsBareSide n.points (prices_of n es) u v → m ≡ pos 0
-bare-least n es u v m least bare =
+pub bare_least : (n : NetworkParts) (es : List Entry) (u v : ℕ) (m : ℤ) → IsLeastSlack n.points n.hull (prices_of n es) u v m → IsBareSide n.points (prices_of n es) u v → m ≡ pos 0
+bare_least n es u v m least bare =
     ⊎_elim
     (λ (h : ((t : Tri) × IsLiveOn n.points (prices_of n es) u v t × (slack n.points n.hull (prices_of n es) t ≡ m))
     × ((t : Tri) → IsLiveOn n.points (prices_of n es) u v t → m ≤ℤ slack n.points n.hull (prices_of n es) t)). absurd (bare h.0.0 h.0.1))
@@ -121,7 +121,7 @@ bare-least n es u v m least bare =
 raised-fits : (n : NetworkParts) (es : List Entry) (u v : ℕ) (m y : ℤ) → BelongTo n es → IsLeastSlack n.points n.hull (prices_of n es) u v m → IsAnchor y
     → ((t : Tri) → IsLiveOn n.points (prices_of n es) u v t → (y +ℤ slack n.points n.hull (prices_of n es) t) <ℤ pos (10 ^ 18)) → IsAnchor (y +ℤ m)
 raised-fits n es u v m y b least anchor below =
-    let some = (least-fits n es u v m b least).0 in
+    let some = (least_fits n es u v m b least).0 in
     let low = anchor.0 in
     let high = anchor.1 in
     ⊎_elim
@@ -133,12 +133,12 @@ raised-fits n es u v m y b least anchor below =
     (omega (arith, ints, low, some), omega (arith, ints, none, high)))
     least
 
-pub anchor-fits-up : (n : NetworkParts) (es : List Entry) (u v : ℕ) (m y : ℤ) → BelongTo n es → IsLeastSlack n.points n.hull (prices_of n es) u v m → IsAnchor y → u < v
+pub anchor_fits_up : (n : NetworkParts) (es : List Entry) (u v : ℕ) (m y : ℤ) → BelongTo n es → IsLeastSlack n.points n.hull (prices_of n es) u v m → IsAnchor y → u < v
     → (share n.points n.hull (prices_of n es) u v +ℤ y) ≤ℤ pos (403 * 10 ^ 15) → IsAnchor (y +ℤ m)
-anchor-fits-up n es u v m y b least anchor l gross =
-    raised-fits n es u v m y b least anchor (λ t on. let beside = slack-beside-up n es t u v b on.1 on.0 l in omega (arith, ints, beside, gross))
+anchor_fits_up n es u v m y b least anchor l gross =
+    raised-fits n es u v m y b least anchor (λ t on. let beside = slack-beside_up n es t u v b on.1 on.0 l in omega (arith, ints, beside, gross))
 
-pub anchor-fits : (n : NetworkParts) (es : List Entry) (u v : ℕ) (m y : ℤ) → BelongTo n es → IsLeastSlack n.points n.hull (prices_of n es) u v m → IsAnchor y
+pub anchor_fits : (n : NetworkParts) (es : List Entry) (u v : ℕ) (m y : ℤ) → BelongTo n es → IsLeastSlack n.points n.hull (prices_of n es) u v m → IsAnchor y
     → (share n.points n.hull (prices_of n es) u v +ℤ y) ≤ℤ pos (3 * 10 ^ 15) → IsAnchor (y +ℤ m)
-anchor-fits n es u v m y b least anchor gross =
+anchor_fits n es u v m y b least anchor gross =
     raised-fits n es u v m y b least anchor (λ t on. let beside = slack-beside n es t u v b on.1 on.0 in omega (arith, ints, beside, gross))

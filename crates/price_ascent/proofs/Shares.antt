@@ -23,14 +23,14 @@ weight_of n e = weight n.points ((edge_at n e).a, (edge_at n e).b)
 abbrev pub on_hull : NetworkParts → ℕ → Bool
 on_hull n e = is_on_hull n.hull (edge_at n e).a (edge_at n e).b
 
-between-up : (ps : List Point) (a b : ℕ) → a < b → weight_between ps a b ≡ pos (weight ps (a, b))
-between-up ps a b l =
+between_up : (ps : List Point) (a b : ℕ) → a < b → weight_between ps a b ≡ pos (weight ps (a, b))
+between_up ps a b l =
     let low : min a b ≡ a = omega arith in
     let high : max a b ≡ b = omega arith in
     ap (λ x. pos (weight ps (x, max a b))) low ∙ ap (λ y. pos (weight ps (a, y))) high
 
-between-down : (ps : List Point) (a b : ℕ) → a < b → weight_between ps b a ≡ pos (weight ps (a, b))
-between-down ps a b l =
+between_down : (ps : List Point) (a b : ℕ) → a < b → weight_between ps b a ≡ pos (weight ps (a, b))
+between_down ps a b l =
     let low : min b a ≡ a = omega arith in
     let high : max b a ≡ b = omega arith in
     ap (λ x. pos (weight ps (x, max b a))) low ∙ ap (λ y. pos (weight ps (a, y))) high
@@ -42,16 +42,16 @@ pub record HasShares (n : NetworkParts) (es : List Entry) (e : ℕ) (up down : �
   pub off_up : on_hull n e ≡ false → up ≡ (pos (weight_of n e) -ℤ (entry es e).value) -ℤ (entry es e).left
   pub off_down : on_hull n e ≡ false → down ≡ (entry es e).value -ℤ (entry es e).right
 
-pub has-shares : (n : NetworkParts) (es : List Entry) (e : ℕ) → IsNetwork n → length es ≡ length n.edges → e < length n.edges → (entry es e).live ≡ true
+pub has_shares : (n : NetworkParts) (es : List Entry) (e : ℕ) → IsNetwork n → length es ≡ length n.edges → e < length n.edges → (entry es e).live ≡ true
     → HasShares n es e (share n.points n.hull (prices_of n es) (edge_at n e).a (edge_at n e).b) (share n.points n.hull (prices_of n es) (edge_at n e).b (edge_at n e).a)
-has-shares n es e net one_each e_in live =
+has_shares n es e net one_each e_in live =
     let x = edge_at n e in
     let l = x.ascending in
     let up = share-kept n es e x.a x.b net one_each live (e_in, Joins-ends x) in
     let down = share-kept n es e x.b x.a net one_each live (e_in, Joins-comm x x.a x.b (Joins-ends x)) in
     let turned = is_on_hull-comm n.hull x.a x.b in
-    let w_up = between-up n.points x.a x.b l in
-    let w_down = between-down n.points x.a x.b l in
+    let w_up = between_up n.points x.a x.b l in
+    let w_down = between_down n.points x.a x.b l in
     record {
       on_up = λ on. up ∙ (cond-true (is_on_hull n.hull x.a x.b) _ _ on ∙ ap (λ w. w -ℤ (entry es e).value) w_up);
       on_down = λ on. down ∙ (cond-true (is_on_hull n.hull x.b x.a) _ _ (turned ∙ on) ∙ ap (λ w. w -ℤ (entry es e).value) w_down);
@@ -60,17 +60,17 @@ has-shares n es e net one_each e_in live =
     }
 
 -- the edge is a hull number or not
-pub hull-number : (n : NetworkParts) (e : ℕ) → on_hull n e ≡ true → IsHullNumber n e
-hull-number n e on = (is_on_hull_decides n.hull (edge_at n e).a (edge_at n e).b).0 on
+pub hull_number : (n : NetworkParts) (e : ℕ) → on_hull n e ≡ true → IsHullNumber n e
+hull_number n e on = (is_on_hull_decides n.hull (edge_at n e).a (edge_at n e).b).0 on
 
-pub inner-number : (n : NetworkParts) (e : ℕ) → on_hull n e ≡ false → ¬ IsHullNumber n e
-inner-number n e off h = false≢true (sym off ∙ (is_on_hull_decides n.hull (edge_at n e).a (edge_at n e).b).1 h)
+pub inner_number : (n : NetworkParts) (e : ℕ) → on_hull n e ≡ false → ¬ IsHullNumber n e
+inner_number n e off h = false≢true (sym off ∙ (is_on_hull_decides n.hull (edge_at n e).a (edge_at n e).b).1 h)
 
-pub own-shares : (n : NetworkParts) (es : List Entry) (e : ℕ) → BelongTo n es → e < length n.edges → (entry es e).live ≡ true → HasShares n es e (entry es e).up (entry es e).down
-own-shares n es e b e_in live =
+pub own_shares : (n : NetworkParts) (es : List Entry) (e : ℕ) → BelongTo n es → e < length n.edges → (entry es e).live ≡ true → HasShares n es e (entry es e).up (entry es e).down
+own_shares n es e b e_in live =
     let up = (b.each e e_in).up live in
     let down = (b.each e e_in).down live in
-    let h = has-shares n es e b.network b.one_each e_in live in
+    let h = has_shares n es e b.network b.one_each e_in live in
     record {
       on_up = λ on. up ∙ h.on_up on;
       on_down = λ on. down ∙ h.on_down on;
@@ -78,9 +78,9 @@ own-shares n es e b e_in live =
       off_down = λ off. down ∙ h.off_down off;
     }
 
-pub shares-fit : (n : NetworkParts) (es : List Entry) (e : ℕ) → BelongTo n es → e < length n.edges → (entry es e).live ≡ true → AreShares (entry es e)
-shares-fit n es e b e_in live =
-    let h = own-shares n es e b e_in live in
+pub shares_fit : (n : NetworkParts) (es : List Entry) (e : ℕ) → BelongTo n es → e < length n.edges → (entry es e).live ≡ true → AreShares (entry es e)
+shares_fit n es e b e_in live =
+    let h = own_shares n es e b e_in live in
     let is = b.each e e_in in
     let light = b.light e e_in live in
     let left0 = is.left.0 in
@@ -89,14 +89,14 @@ shares-fit n es e b e_in live =
     let right1 = is.right.1 in
     ⊎_elim
     (λ on.
-    let anchor = is.anchor (hull-number n e on) in
+    let anchor = is.anchor (hull_number n e on) in
     let y0 = anchor.0 in
     let y1 = anchor.1 in
     let up = h.on_up on in
     let down = h.on_down on in
     record { up_low = omega (arith, ints); up_high = omega (arith, ints); down_low = omega (arith, ints); down_high = omega (arith, ints) })
     (λ off.
-    let price = is.price (inner-number n e off) in
+    let price = is.price (inner_number n e off) in
     let p0 = price.0 in
     let p1 = price.1 in
     let up = h.off_up off in

@@ -12,13 +12,13 @@ use Rattle.price_ascent.specs.Raised.{sides_from}
 use Rattle.price_ascent.proofs.Kept.{get_or-mapped}
 
 -- the pairs of the hull from a place on
-pub next-pair : (hull : List ℕ) (i v : ℕ) → i < length hull → IsNext hull i v → drop i (ring_pairs hull) ≡ (slice_index hull i, v) ∷ drop (i + 1) (ring_pairs hull)
-next-pair hull i v i_in next =
+pub next_pair : (hull : List ℕ) (i v : ℕ) → i < length hull → IsNext hull i v → drop i (ring_pairs hull) ≡ (slice_index hull i, v) ∷ drop (i + 1) (ring_pairs hull)
+next_pair hull i v i_in next =
     drop_more (ring_pairs hull) i (0, 0) (let many = length-ring hull in omega arith)
     ∙ ap (λ s. s ∷ drop (i + 1) (ring_pairs hull)) (pair_at hull (slice_index hull i) v i (0, 0) i_in refl next)
 
-pub no-pair : (hull : List ℕ) (i : ℕ) → length hull ≤ i → drop i (ring_pairs hull) ≡ []
-no-pair hull i past = drop_all i (ring_pairs hull) (let many = length-ring hull in omega arith)
+pub no_pair : (hull : List ℕ) (i : ℕ) → length hull ≤ i → drop i (ring_pairs hull) ≡ []
+no_pair hull i past = drop_all i (ring_pairs hull) (let many = length-ring hull in omega arith)
 
 -- the sides of inner edges from an edge on
 sides-at : (n : NetworkParts) (es : List Entry) (e : ℕ) (b : Bool) → length es ≡ length n.edges → e < length n.edges → (entry es e).anchored ≡ b

@@ -12,45 +12,45 @@ use Rattle.price_ascent.specs.Ascent.{IsLeastSlack, IsLiveOn}
 use Rattle.price_ascent.specs.Belonging.{BelongTo}
 use Rattle.price_ascent.specs.Entries.{prices_of}
 use Rattle.price_ascent.specs.Steps.{IsSlack}
-use Rattle.price_ascent.proofs.LiveSides.{side-number}
-use Rattle.price_ascent.proofs.Shares.{shares-fit}
-use Rattle.price_ascent.proofs.SlackSums.{share-down-kept, share-up-kept}
+use Rattle.price_ascent.proofs.LiveSides.{side_number}
+use Rattle.price_ascent.proofs.Shares.{shares_fit}
+use Rattle.price_ascent.proofs.SlackSums.{share-down_kept, share-up_kept}
 
 -- a share that goes up
-share-up-high : (n : NetworkParts) (es : List Entry) (t : Tri) (u v : ℕ) → BelongTo n es → IsLiveTriangle n.points (prices_of n es) t → HasSide t u v → u < v
+share-up_high : (n : NetworkParts) (es : List Entry) (t : Tri) (u v : ℕ) → BelongTo n es → IsLiveTriangle n.points (prices_of n es) t → HasSide t u v → u < v
     → share n.points n.hull (prices_of n es) u v ≤ℤ pos (403 * 10 ^ 15)
-share-up-high n es t u v b over side l =
-    let k = side-number n es t u v b.one_each over side in
-    let fit = (shares-fit n es k.0 b k.1.0 k.2).up_high in
-    subst (λ (z : ℤ). z ≤ℤ pos (403 * 10 ^ 15)) (share-up-kept n es k.0 u v b k.2 k.1 l) fit
+share-up_high n es t u v b over side l =
+    let k = side_number n es t u v b.one_each over side in
+    let fit = (shares_fit n es k.0 b k.1.0 k.2).up_high in
+    subst (λ (z : ℤ). z ≤ℤ pos (403 * 10 ^ 15)) (share-up_kept n es k.0 u v b k.2 k.1 l) fit
 
 -- a share that goes down
-share-down-high : (n : NetworkParts) (es : List Entry) (t : Tri) (u v : ℕ) → BelongTo n es → IsLiveTriangle n.points (prices_of n es) t → HasSide t u v → v < u
+share-down_high : (n : NetworkParts) (es : List Entry) (t : Tri) (u v : ℕ) → BelongTo n es → IsLiveTriangle n.points (prices_of n es) t → HasSide t u v → v < u
     → share n.points n.hull (prices_of n es) u v ≤ℤ pos (3 * 10 ^ 15)
-share-down-high n es t u v b over side l =
-    let k = side-number n es t u v b.one_each over side in
-    let fit = (shares-fit n es k.0 b k.1.0 k.2).down_high in
-    subst (λ (z : ℤ). z ≤ℤ pos (3 * 10 ^ 15)) (share-down-kept n es k.0 u v b k.2 k.1 l) fit
+share-down_high n es t u v b over side l =
+    let k = side_number n es t u v b.one_each over side in
+    let fit = (shares_fit n es k.0 b k.1.0 k.2).down_high in
+    subst (λ (z : ℤ). z ≤ℤ pos (3 * 10 ^ 15)) (share-down_kept n es k.0 u v b k.2 k.1 l) fit
 
 share-high : (n : NetworkParts) (es : List Entry) (t : Tri) (u v : ℕ) → BelongTo n es → IsLiveTriangle n.points (prices_of n es) t → HasSide t u v
     → share n.points n.hull (prices_of n es) u v ≤ℤ pos (403 * 10 ^ 15)
 share-high n es t u v b over side =
     ⊎_elim
-    (λ l. share-up-high n es t u v b over side l)
+    (λ l. share-up_high n es t u v b over side l)
     (λ le.
     let l : v < u = let apart = corners_differ t u v side.0 side.1 in omega arith in
-    let high = share-down-high n es t u v b over side l in
+    let high = share-down_high n es t u v b over side l in
     omega (arith, ints, high))
     (cases_lt u v)
 
 -- the slack of a triangle beside the share of a side that goes up
-pub slack-beside-up : (n : NetworkParts) (es : List Entry) (t : Tri) (u v : ℕ) → BelongTo n es → IsLiveTriangle n.points (prices_of n es) t → HasSide t u v → u < v
+pub slack-beside_up : (n : NetworkParts) (es : List Entry) (t : Tri) (u v : ℕ) → BelongTo n es → IsLiveTriangle n.points (prices_of n es) t → HasSide t u v → u < v
     → slack n.points n.hull (prices_of n es) t ≤ℤ (share n.points n.hull (prices_of n es) u v +ℤ pos (406 * 10 ^ 15))
-slack-beside-up n es t u v b over (w, corners) l =
+slack-beside_up n es t u v b over (w, corners) l =
     let s = share n.points n.hull (prices_of n es) in
     let ab = share-high n es t t.a t.b b over (t.c, inl (refl, refl, refl)) in
     let bc = share-high n es t t.b t.c b over (t.a, inr (inl (refl, refl, refl))) in
-    let ca = share-down-high n es t t.c t.a b over (t.b, inr (inr (refl, refl, refl))) t.below_c in
+    let ca = share-down_high n es t t.c t.a b over (t.b, inr (inr (refl, refl, refl))) t.below_c in
     ⊎_elim
     (λ (c : (t.a ≡ u) × (t.b ≡ v) × (t.c ≡ w)).
     let is : s u v ≡ s t.a t.b = ap (λ x. s x v) (sym c.0) ∙ ap (s t.a) (sym c.1) in
@@ -74,7 +74,7 @@ slack-beside n es t u v b over (w, corners) =
     let s = share n.points n.hull (prices_of n es) in
     let ab = share-high n es t t.a t.b b over (t.c, inl (refl, refl, refl)) in
     let bc = share-high n es t t.b t.c b over (t.a, inr (inl (refl, refl, refl))) in
-    let ca = share-down-high n es t t.c t.a b over (t.b, inr (inr (refl, refl, refl))) t.below_c in
+    let ca = share-down_high n es t t.c t.a b over (t.b, inr (inr (refl, refl, refl))) t.below_c in
     ⊎_elim
     (λ (c : (t.a ≡ u) × (t.b ≡ v) × (t.c ≡ w)).
     let is : s u v ≡ s t.a t.b = ap (λ x. s x v) (sym c.0) ∙ ap (s t.a) (sym c.1) in
@@ -90,8 +90,8 @@ slack-beside n es t u v b over (w, corners) =
     corners
 
 -- the least slack of live triangles
-pub least-fits : (n : NetworkParts) (es : List Entry) (u v : ℕ) (m : ℤ) → BelongTo n es → IsLeastSlack n.points n.hull (prices_of n es) u v m → IsSlack m
-least-fits n es u v m b least =
+pub least_fits : (n : NetworkParts) (es : List Entry) (u v : ℕ) (m : ℤ) → BelongTo n es → IsLeastSlack n.points n.hull (prices_of n es) u v m → IsSlack m
+least_fits n es u v m b least =
     ⊎_elim
     (λ (h : ((t : Tri) × IsLiveOn n.points (prices_of n es) u v t × (slack n.points n.hull (prices_of n es) t ≡ m))
     × ((t : Tri) → IsLiveOn n.points (prices_of n es) u v t → m ≤ℤ slack n.points n.hull (prices_of n es) t)).
@@ -99,8 +99,8 @@ least-fits n es u v m b least =
     let over = h.0.1.1 in
     let is = h.0.2 in
     let low = b.feasible t over in
-    let ab = share-up-high n es t t.a t.b b over (t.c, inl (refl, refl, refl)) t.below_b in
-    let high = slack-beside-up n es t t.a t.b b over (t.c, inl (refl, refl, refl)) t.below_b in
+    let ab = share-up_high n es t t.a t.b b over (t.c, inl (refl, refl, refl)) t.below_b in
+    let high = slack-beside_up n es t t.a t.b b over (t.c, inl (refl, refl, refl)) t.below_b in
     (omega (arith, ints, is, low), omega (arith, ints, is, high, ab)))
     (λ (h : ((t : Tri) → ¬ IsLiveOn n.points (prices_of n es) u v t) × (m ≡ pos 0)).
     let none = h.1 in

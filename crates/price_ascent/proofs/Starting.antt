@@ -14,12 +14,12 @@ use Rattle.price_ascent.specs.Ascent.{IsStart}
 use Rattle.price_ascent.specs.Belonging.{BelongTo}
 use Rattle.price_ascent.specs.Entries.{entry, live_of, no_entry, prices_of, table_of}
 use Rattle.price_ascent.specs.Steps.{first_entry, start_entry}
-use Rattle.price_ascent.proofs.Changed.{hull-of, which-side}
-use Rattle.price_ascent.proofs.Kept.{get_or-mapped, live-at}
-use Rattle.price_ascent.proofs.LiveSides.{side-number}
-use Rattle.price_ascent.proofs.Lowering.{inner-off}
-use Rattle.price_ascent.proofs.Raising.{hull-on}
-use Rattle.price_ascent.proofs.Shares.{has-shares, on_hull, weight_of}
+use Rattle.price_ascent.proofs.Changed.{hull_of, which_side}
+use Rattle.price_ascent.proofs.Kept.{get_or-mapped, live_at}
+use Rattle.price_ascent.proofs.LiveSides.{side_number}
+use Rattle.price_ascent.proofs.Lowering.{inner_off}
+use Rattle.price_ascent.proofs.Raising.{hull_on}
+use Rattle.price_ascent.proofs.Shares.{has_shares, on_hull, weight_of}
 
 -- What is kept at the start.
 pub record AreFirst (n : NetworkParts) (flags : List Bool) (es : List Entry) : Type 0 where
@@ -30,61 +30,61 @@ pub record AreFirst (n : NetworkParts) (flags : List Bool) (es : List Entry) : T
   pub light : (e : ℕ) → e < length n.edges → get_or flags e false ≡ true → weight n.points ((edge_at n e).a, (edge_at n e).b) < 3 * 10 ^ 15
   pub hull_live : (e : ℕ) → e < length n.edges → IsHullNumber n e → get_or flags e false ≡ true
 
-start-dead : (n : NetworkParts) (flags : List Bool) (es : List Entry) (e : ℕ) → AreFirst n flags es → e < length n.edges → get_or flags e false ≡ false → entry es e ≡ no_entry
-start-dead n flags es e a e_in dead = a.each e e_in ∙ cond-false (get_or flags e false) _ _ dead
+start_dead : (n : NetworkParts) (flags : List Bool) (es : List Entry) (e : ℕ) → AreFirst n flags es → e < length n.edges → get_or flags e false ≡ false → entry es e ≡ no_entry
+start_dead n flags es e a e_in dead = a.each e e_in ∙ cond-false (get_or flags e false) _ _ dead
 
-start-hull : (n : NetworkParts) (flags : List Bool) (es : List Entry) (e : ℕ) → AreFirst n flags es → e < length n.edges → get_or flags e false ≡ true → on_hull n e ≡ true → entry es e ≡ first_entry (weight_of n e) true
-start-hull n flags es e a e_in live on = a.each e e_in ∙ (cond-true (get_or flags e false) _ _ live ∙ ap (first_entry (weight_of n e)) on)
+start_hull : (n : NetworkParts) (flags : List Bool) (es : List Entry) (e : ℕ) → AreFirst n flags es → e < length n.edges → get_or flags e false ≡ true → on_hull n e ≡ true → entry es e ≡ first_entry (weight_of n e) true
+start_hull n flags es e a e_in live on = a.each e e_in ∙ (cond-true (get_or flags e false) _ _ live ∙ ap (first_entry (weight_of n e)) on)
 
-start-inner : (n : NetworkParts) (flags : List Bool) (es : List Entry) (e : ℕ) → AreFirst n flags es → e < length n.edges → get_or flags e false ≡ true → on_hull n e ≡ false → entry es e ≡ first_entry (weight_of n e) false
-start-inner n flags es e a e_in live off = a.each e e_in ∙ (cond-true (get_or flags e false) _ _ live ∙ ap (first_entry (weight_of n e)) off)
+start_inner : (n : NetworkParts) (flags : List Bool) (es : List Entry) (e : ℕ) → AreFirst n flags es → e < length n.edges → get_or flags e false ≡ true → on_hull n e ≡ false → entry es e ≡ first_entry (weight_of n e) false
+start_inner n flags es e a e_in live off = a.each e e_in ∙ (cond-true (get_or flags e false) _ _ live ∙ ap (first_entry (weight_of n e)) off)
 
 -- an entry is live where its flag is set
 entry-live : (n : NetworkParts) (flags : List Bool) (es : List Entry) (e : ℕ) → AreFirst n flags es → e < length n.edges → (entry es e).live ≡ get_or flags e false
 entry-live n flags es e a e_in =
     ⊎_elim
     (λ (on : get_or flags e false ≡ true). ⊎_elim
-    (λ h. ap (λ (p : Entry). p.live) (start-hull n flags es e a e_in on h) ∙ sym on)
-    (λ h. ap (λ (p : Entry). p.live) (start-inner n flags es e a e_in on h) ∙ sym on)
+    (λ h. ap (λ (p : Entry). p.live) (start_hull n flags es e a e_in on h) ∙ sym on)
+    (λ h. ap (λ (p : Entry). p.live) (start_inner n flags es e a e_in on h) ∙ sym on)
     (cases_Bool (on_hull n e)))
-    (λ (off : get_or flags e false ≡ false). ap (λ (p : Entry). p.live) (start-dead n flags es e a e_in off) ∙ sym off)
+    (λ (off : get_or flags e false ≡ false). ap (λ (p : Entry). p.live) (start_dead n flags es e a e_in off) ∙ sym off)
     (cases_Bool (get_or flags e false))
 
-pub first-live : (n : NetworkParts) (flags : List Bool) (es : List Entry) → AreFirst n flags es → live_of es ≡ flags
-first-live n flags es a =
+pub first_live : (n : NetworkParts) (flags : List Bool) (es : List Entry) → AreFirst n flags es → live_of es ≡ flags
+first_live n flags es a =
     let many = length-map es (λ (p : Entry). p.live) in
     let one = a.one_each in
     let flag = a.flag_each in
     same_lists (live_of es) flags (omega arith)
     (λ k d l. let k_in : k < length n.edges = omega arith in
-    get_or_default (live_of es) k d false l ∙ (live-at es k ∙ (entry-live n flags es k a k_in ∙ get_or_default flags k false d (omega arith))))
+    get_or_default (live_of es) k d false l ∙ (live_at es k ∙ (entry-live n flags es k a k_in ∙ get_or_default flags k false d (omega arith))))
 
 -- none has anchors yet
-pub none-yet : (n : NetworkParts) (flags : List Bool) (es : List Entry) (e : ℕ) → AreFirst n flags es → (entry es e).anchored ≡ false
-none-yet n flags es e a =
+pub none_yet : (n : NetworkParts) (flags : List Bool) (es : List Entry) (e : ℕ) → AreFirst n flags es → (entry es e).anchored ≡ false
+none_yet n flags es e a =
     ⊎_elim
     (λ (e_in : e < length n.edges). ⊎_elim
     (λ (on : get_or flags e false ≡ true). ⊎_elim
-    (λ h. ap (λ (p : Entry). p.anchored) (start-hull n flags es e a e_in on h))
-    (λ h. ap (λ (p : Entry). p.anchored) (start-inner n flags es e a e_in on h))
+    (λ h. ap (λ (p : Entry). p.anchored) (start_hull n flags es e a e_in on h))
+    (λ h. ap (λ (p : Entry). p.anchored) (start_inner n flags es e a e_in on h))
     (cases_Bool (on_hull n e)))
-    (λ (off : get_or flags e false ≡ false). ap (λ (p : Entry). p.anchored) (start-dead n flags es e a e_in off))
+    (λ (off : get_or flags e false ≡ false). ap (λ (p : Entry). p.anchored) (start_dead n flags es e a e_in off))
     (cases_Bool (get_or flags e false)))
     (λ past. ap (λ (p : Entry). p.anchored) (get_or_past es e no_entry (let one = a.one_each in omega arith)))
     (cases_lt e (length n.edges))
 
 -- both shares of a live edge at the start
-shares-first : (n : NetworkParts) (flags : List Bool) (es : List Entry) (e : ℕ) → AreFirst n flags es → e < length n.edges → (entry es e).live ≡ true
+shares_first : (n : NetworkParts) (flags : List Bool) (es : List Entry) (e : ℕ) → AreFirst n flags es → e < length n.edges → (entry es e).live ≡ true
     → ((entry es e).up ≡ share n.points n.hull (prices_of n es) (edge_at n e).a (edge_at n e).b)
     × ((entry es e).down ≡ share n.points n.hull (prices_of n es) (edge_at n e).b (edge_at n e).a)
     × (pos 0 ≤ℤ (entry es e).up) × (pos 0 ≤ℤ (entry es e).down)
-shares-first n flags es e a e_in live =
-    let h = has-shares n es e a.network a.one_each e_in live in
+shares_first n flags es e a e_in live =
+    let h = has_shares n es e a.network a.one_each e_in live in
     let flag : get_or flags e false ≡ true = sym (entry-live n flags es e a e_in) ∙ live in
     let w = weight_of n e in
     ⊎_elim
     (λ on.
-    let is = start-hull n flags es e a e_in flag on in
+    let is = start_hull n flags es e a e_in flag on in
     let value = ap (λ (p : Entry). p.value) is in
     let up = ap (λ (p : Entry). p.up) is in
     let down = ap (λ (p : Entry). p.down) is in
@@ -92,7 +92,7 @@ shares-first n flags es e a e_in live =
     let s_down = h.on_down on in
     (omega (arith, ints, value, up, s_up), omega (arith, ints, value, down, s_down), omega (arith, ints, up), omega (arith, ints, down)))
     (λ off.
-    let is = start-inner n flags es e a e_in flag off in
+    let is = start_inner n flags es e a e_in flag off in
     let value = ap (λ (p : Entry). p.value) is in
     let left = ap (λ (p : Entry). p.left) is in
     let right = ap (λ (p : Entry). p.right) is in
@@ -107,15 +107,15 @@ shares-first n flags es e a e_in live =
 share-first : (n : NetworkParts) (flags : List Bool) (es : List Entry) (t : Tri) (u v : ℕ) → AreFirst n flags es → IsLiveTriangle n.points (prices_of n es) t → HasSide t u v
     → pos 0 ≤ℤ share n.points n.hull (prices_of n es) u v
 share-first n flags es t u v a over side =
-    let k = side-number n es t u v a.one_each over side in
+    let k = side_number n es t u v a.one_each over side in
     let s = share n.points n.hull (prices_of n es) in
-    let f = shares-first n flags es k.0 a k.1.0 k.2 in
+    let f = shares_first n flags es k.0 a k.1.0 k.2 in
     ⊎_elim
     (λ (p : (u ≡ (edge_at n k.0).a) × (v ≡ (edge_at n k.0).b)).
     subst (λ (x : ℕ). pos 0 ≤ℤ s x v) (sym p.0) (subst (λ (y : ℕ). pos 0 ≤ℤ s (edge_at n k.0).a y) (sym p.1) (subst (λ (z : ℤ). pos 0 ≤ℤ z) f.0 f.2)))
     (λ (p : (u ≡ (edge_at n k.0).b) × (v ≡ (edge_at n k.0).a)).
     subst (λ (x : ℕ). pos 0 ≤ℤ s x v) (sym p.0) (subst (λ (y : ℕ). pos 0 ≤ℤ s (edge_at n k.0).b y) (sym p.1) (subst (λ (z : ℤ). pos 0 ≤ℤ z) f.1 f.3)))
-    (which-side n k.0 u v k.1)
+    (which_side n k.0 u v k.1)
 
 -- values and anchors at the start
 record IsSmall (n : NetworkParts) (e : ℕ) (p : Entry) : Type 0 where
@@ -126,11 +126,11 @@ record IsSmall (n : NetworkParts) (e : ℕ) (p : Entry) : Type 0 where
   left : p.left ≡ pos 0
   right : p.right ≡ pos 0
 
-small-first : (n : NetworkParts) (flags : List Bool) (es : List Entry) (e : ℕ) → AreFirst n flags es → e < length n.edges → IsSmall n e (entry es e)
-small-first n flags es e a e_in =
+small_first : (n : NetworkParts) (flags : List Bool) (es : List Entry) (e : ℕ) → AreFirst n flags es → e < length n.edges → IsSmall n e (entry es e)
+small_first n flags es e a e_in =
     ⊎_elim
     (λ (flag : get_or flags e false ≡ true). ⊎_elim
-    (λ on. subst (IsSmall n e) (sym (start-hull n flags es e a e_in flag on)) (record {
+    (λ on. subst (IsSmall n e) (sym (start_hull n flags es e a e_in flag on)) (record {
       value_low = omega (arith, ints);
       value_high = λ live. omega (arith, ints);
       value_dead = λ dead. refl;
@@ -138,7 +138,7 @@ small-first n flags es e a e_in =
       left = refl;
       right = refl;
     }))
-    (λ off. subst (IsSmall n e) (sym (start-inner n flags es e a e_in flag off)) (let light = a.light e e_in flag in record {
+    (λ off. subst (IsSmall n e) (sym (start_inner n flags es e a e_in flag off)) (let light = a.light e e_in flag in record {
       value_low = omega (arith, ints);
       value_high = λ live. omega (arith, ints, light);
       value_dead = λ dead. absurd (false≢true (sym dead));
@@ -147,7 +147,7 @@ small-first n flags es e a e_in =
       right = refl;
     }))
     (cases_Bool (on_hull n e)))
-    (λ (flag : get_or flags e false ≡ false). subst (IsSmall n e) (sym (start-dead n flags es e a e_in flag)) (record {
+    (λ (flag : get_or flags e false ≡ false). subst (IsSmall n e) (sym (start_dead n flags es e a e_in flag)) (record {
       value_low = omega (arith, ints);
       value_high = λ live. omega (arith, ints);
       value_dead = λ dead. refl;
@@ -157,14 +157,14 @@ small-first n flags es e a e_in =
     }))
     (cases_Bool (get_or flags e false))
 
-pub first-belong : (n : NetworkParts) (flags : List Bool) (es : List Entry) → AreFirst n flags es → BelongTo n es
-first-belong n flags es a =
+pub first_belong : (n : NetworkParts) (flags : List Bool) (es : List Entry) → AreFirst n flags es → BelongTo n es
+first_belong n flags es a =
     record {
       network = a.network;
       one_each = a.one_each;
       light = λ e e_in live. a.light e e_in (sym (entry-live n flags es e a e_in) ∙ live);
       each = λ e e_in.
-          let s = small-first n flags es e a e_in in
+          let s = small_first n flags es e a e_in in
           let low = s.value_low in
           let left = s.left in
           let right = s.right in
@@ -173,16 +173,16 @@ first-belong n flags es a =
               omega (arith, ints, low),
               ⊎_elim (λ live. s.value_high live) (λ dead. let zero = s.value_dead dead in omega (arith, ints, zero)) (cases_Bool (entry es e).live),
             );
-            anchor = λ hull. let zero = s.value_hull (hull-on n e hull) in (low, omega (arith, ints, zero));
+            anchor = λ hull. let zero = s.value_hull (hull_on n e hull) in (low, omega (arith, ints, zero));
             left = (omega (arith, ints, left), omega (arith, ints, left));
             right = (omega (arith, ints, right), omega (arith, ints, right));
-            up = λ live. (shares-first n flags es e a e_in live).0;
-            down = λ live. (shares-first n flags es e a e_in live).1;
+            up = λ live. (shares_first n flags es e a e_in live).0;
+            down = λ live. (shares_first n flags es e a e_in live).1;
             killed = λ dead. s.value_dead dead;
             hull_live = λ hull. entry-live n flags es e a e_in ∙ a.hull_live e e_in hull;
-            inner = λ on. absurd (false≢true (sym (none-yet n flags es e a) ∙ on));
+            inner = λ on. absurd (false≢true (sym (none_yet n flags es e a) ∙ on));
             elsewhere = λ off. (left, right);
-            bare_hull = λ u v is pair bare. s.value_hull (hull-on n e (hull-of n e u v is pair));
+            bare_hull = λ u v is pair bare. s.value_hull (hull_on n e (hull_of n e u v is pair));
             bare_left = λ bare. left;
             bare_right = λ bare. right;
           };
@@ -194,21 +194,21 @@ first-belong n flags es a =
     }
 
 -- and they are the start
-pub first-start : (n : NetworkParts) (flags : List Bool) (es : List Entry) → AreFirst n flags es → IsStart n flags (table_of es)
-first-start n flags es a =
+pub first_start : (n : NetworkParts) (flags : List Bool) (es : List Entry) → AreFirst n flags es → IsStart n flags (table_of es)
+first_start n flags es a =
     record {
       one_each = length-map es (λ (p : Entry). p.value) ∙ a.one_each;
       prices = λ e inner.
           let e_in : e < length n.edges = let l = flag_in flags e inner.0 in let many = a.flag_each in omega arith in
-          get_or-mapped (λ (p : Entry). p.value) es e no_entry ∙ ap (λ (p : Entry). p.value) (start-inner n flags es e a e_in inner.0 (inner-off n e inner.1));
+          get_or-mapped (λ (p : Entry). p.value) es e no_entry ∙ ap (λ (p : Entry). p.value) (start_inner n flags es e a e_in inner.0 (inner_off n e inner.1));
       others = λ e out.
           get_or-mapped (λ (p : Entry). p.value) es e no_entry ∙ ⊎_elim
-          (λ (e_in : e < length n.edges). let s = small-first n flags es e a e_in in
-          ⊎_elim (λ dead. s.value_dead (entry-live n flags es e a e_in ∙ dead)) (λ hull. s.value_hull (hull-on n e hull)) out)
+          (λ (e_in : e < length n.edges). let s = small_first n flags es e a e_in in
+          ⊎_elim (λ dead. s.value_dead (entry-live n flags es e a e_in ∙ dead)) (λ hull. s.value_hull (hull_on n e hull)) out)
           (λ past. ap (λ (p : Entry). p.value) (get_or_past es e no_entry (let one = a.one_each in omega arith)))
           (cases_lt e (length n.edges));
-      lefts = zeros es (λ p. p.left) (length n.edges) a.one_each (λ k k_in. (small-first n flags es k a k_in).left);
-      rights = zeros es (λ p. p.right) (length n.edges) a.one_each (λ k k_in. (small-first n flags es k a k_in).right);
+      lefts = zeros es (λ p. p.left) (length n.edges) a.one_each (λ k k_in. (small_first n flags es k a k_in).left);
+      rights = zeros es (λ p. p.right) (length n.edges) a.one_each (λ k k_in. (small_first n flags es k a k_in).right);
     }
   where
     zeros : (xs : List Entry) (f : Entry → ℤ) (m : ℕ) → length xs ≡ m → ((k : ℕ) → k < m → f (entry xs k) ≡ pos 0) → map f xs ≡ replicate m (pos 0)

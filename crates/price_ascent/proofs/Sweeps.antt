@@ -13,9 +13,9 @@ use Rattle.price_ascent.specs.Ascent.{IsInner, IsLeastSlack, IsSweep, IsSwept, l
 use Rattle.price_ascent.specs.Belonging.{BelongTo}
 use Rattle.price_ascent.specs.Entries.{entry, live_of, no_entry, table_of}
 use Rattle.price_ascent.specs.Steps.{IsLowered, lowered}
-use Rattle.price_ascent.proofs.Changed.{IsChange, live-same, new-entry, other-entry, same-field}
-use Rattle.price_ascent.proofs.Kept.{get_or-mapped, live-at}
-use Rattle.price_ascent.proofs.Lowering.{IsFall, fall-is}
+use Rattle.price_ascent.proofs.Changed.{IsChange, live_same, new_entry, other_entry, same_field}
+use Rattle.price_ascent.proofs.Kept.{get_or-mapped, live_at}
+use Rattle.price_ascent.proofs.Lowering.{IsFall, fall_is}
 
 -- Of the edges, the first i have been swept, from es to fs.
 pub record AreSwept (n : NetworkParts) (es fs : List Entry) (i : ℕ) : Type 0 where
@@ -29,8 +29,8 @@ pub record AreSwept (n : NetworkParts) (es fs : List Entry) (i : ℕ) : Type 0 w
   pub others : (k : ℕ) → (get_or (live_of es) k false ≡ false) ⊎ IsHullNumber n k → (entry fs k).value ≡ (entry es k).value
   pub falls : (k : ℕ) → (entry fs k).value ≤ℤ (entry es k).value
 
-pub none-swept : (n : NetworkParts) (es : List Entry) → BelongTo n es → AreSwept n es es 0
-none-swept n es b =
+pub none_swept : (n : NetworkParts) (es : List Entry) → BelongTo n es → AreSwept n es es 0
+none_swept n es b =
     record {
       belong = b;
       live = refl;
@@ -65,16 +65,16 @@ skipped n es fs i h outer =
     }
 
 -- what stands at the place i is what stood there
-rest-at : (fs es : List Entry) (i : ℕ) → drop i fs ≡ drop i es → entry fs i ≡ entry es i
-rest-at fs es i same =
+rest_at : (fs es : List Entry) (i : ℕ) → drop i fs ≡ drop i es → entry fs i ≡ entry es i
+rest_at fs es i same =
     let zero : i + 0 ≡ i = omega arith in
     ap (entry fs) (sym zero) ∙ (sym (get_or-drop i fs 0 no_entry) ∙ (ap (λ gs. get_or gs 0 no_entry) same ∙ (get_or-drop i es 0 no_entry ∙ ap (entry es) zero)))
 
 abbrev table : List ℤ → List ℤ → List ℤ → PriceTable
 table values lefts rights = record { values = values; lefts = lefts; rights = rights }
 
-same-table : (a b c x y z : List ℤ) → a ≡ x → b ≡ y → c ≡ z → table a b c ≡ table x y z
-same-table a b c x y z e f g = cc
+same_table : (a b c x y z : List ℤ) → a ≡ x → b ≡ y → c ≡ z → table a b c ≡ table x y z
+same_table a b c x y z e f g = cc
 
 -- before the edge i is swept, the mixed table is the present one
 mixed-now : (n : NetworkParts) (es fs gs : List Entry) (i : ℕ) (x : Entry) → AreSwept n es fs i → gs ≡ set fs i x → mixed i (table_of gs) (table_of es) ≡ table_of fs
@@ -82,7 +82,7 @@ mixed-now n es fs gs i x h is =
     let value = λ (p : Entry). p.value in
     let front : take i (map value gs) ≡ take i (map value fs) = ap (λ xs. take i (map value xs)) is ∙ (ap (take i) (map-set value fs i x) ∙ take-set-le i (map value fs) i x.value (omega arith)) in
     let back : drop i (map value es) ≡ drop i (map value fs) = drop-map value i es ∙ (ap (map value) (sym h.rest) ∙ sym (drop-map value i fs)) in
-    same-table _ _ _ _ _ _
+    same_table _ _ _ _ _ _
     (ap (λ xs. xs ++ drop i (map value es)) front ∙ (ap (λ ys. take i (map value fs) ++ ys) back ∙ take-append-drop i (map value fs)))
     (sym h.lefts) (sym h.rights)
 
@@ -91,14 +91,14 @@ mixed-kept : (n : NetworkParts) (es fs gs : List Entry) (i k : ℕ) (x : Entry) 
 mixed-kept n es fs gs i k x is l =
     let value = λ (p : Entry). p.value in
     let front : take k (map value gs) ≡ take k (map value fs) = ap (λ xs. take k (map value xs)) is ∙ (ap (take k) (map-set value fs i x) ∙ take-set-le k (map value fs) i x.value l) in
-    same-table _ _ _ _ _ _ (ap (λ xs. xs ++ drop k (map value es)) front) refl refl
+    same_table _ _ _ _ _ _ (ap (λ xs. xs ++ drop k (map value es)) front) refl refl
 
-pub value-is : (es : List Entry) (k : ℕ) → value_at (table_of es) k ≡ (entry es k).value
-value-is es k = get_or-mapped (λ (p : Entry). p.value) es k no_entry
+pub value_is : (es : List Entry) (k : ℕ) → value_at (table_of es) k ≡ (entry es k).value
+value_is es k = get_or-mapped (λ (p : Entry). p.value) es k no_entry
 
 -- the edge that is swept now
-swept-now : (n : NetworkParts) (es fs gs : List Entry) (i : ℕ) (r : IsLowered n fs gs i) → AreSwept n es fs i → IsChange n fs gs i (lowered (entry fs i) r.m) → IsSwept n (live_of es) (table_of es) (table_of gs) i
-swept-now n es fs gs i r h c =
+swept_now : (n : NetworkParts) (es fs gs : List Entry) (i : ℕ) (r : IsLowered n fs gs i) → AreSwept n es fs i → IsChange n fs gs i (lowered (entry fs i) r.m) → IsSwept n (live_of es) (table_of es) (table_of gs) i
+swept_now n es fs gs i r h c =
     let x = lowered (entry fs i) r.m in
     let a = (edge_at n i).a in
     let b = (edge_at n i).b in
@@ -106,63 +106,63 @@ swept-now n es fs gs i r h c =
       m = r.m;
       least = subst (λ (t : PriceTable). IsLeastSlack n.points n.hull (table_prices n t (live_numbers (live_of es))) b a r.m) (sym (mixed-now n es fs gs i x h r.entry_is))
           (subst (λ (bs : List Bool). IsLeastSlack n.points n.hull (table_prices n (table_of fs) (live_numbers bs)) b a r.m) h.live r.least);
-      value = value-is gs i
-          ∙ (ap (λ (p : Entry). p.value) (new-entry n fs gs i x c)
-          ∙ (ap (λ (p : Entry). int_max (p.value -ℤ r.m) lowest) (rest-at fs es i h.rest) ∙ ap (λ (v : ℤ). int_max (v -ℤ r.m) lowest) (sym (value-is es i))));
+      value = value_is gs i
+          ∙ (ap (λ (p : Entry). p.value) (new_entry n fs gs i x c)
+          ∙ (ap (λ (p : Entry). int_max (p.value -ℤ r.m) lowest) (rest_at fs es i h.rest) ∙ ap (λ (v : ℤ). int_max (v -ℤ r.m) lowest) (sym (value_is es i))));
     }
 
 -- and one that was swept before
-swept-before : (n : NetworkParts) (es fs gs : List Entry) (i k : ℕ) (x : Entry) → IsChange n fs gs i x → k < i → IsSwept n (live_of es) (table_of es) (table_of fs) k → IsSwept n (live_of es) (table_of es) (table_of gs) k
-swept-before n es fs gs i k x c l s =
+swept_before : (n : NetworkParts) (es fs gs : List Entry) (i k : ℕ) (x : Entry) → IsChange n fs gs i x → k < i → IsSwept n (live_of es) (table_of es) (table_of fs) k → IsSwept n (live_of es) (table_of es) (table_of gs) k
+swept_before n es fs gs i k x c l s =
     let away : k ≢ i = omega arith in
     record {
       m = s.m;
       least = subst (λ (t : PriceTable). IsLeastSlack n.points n.hull (table_prices n t (live_numbers (live_of es))) (edge_at n k).b (edge_at n k).a s.m)
           (sym (mixed-kept n es fs gs i k x c.is (omega arith))) s.least;
-      value = value-is gs k ∙ (ap (λ (p : Entry). p.value) (other-entry n fs gs i x k c away) ∙ (sym (value-is fs k) ∙ s.value));
+      value = value_is gs k ∙ (ap (λ (p : Entry). p.value) (other_entry n fs gs i x k c away) ∙ (sym (value_is fs k) ∙ s.value));
     }
 
 -- one more edge is swept
-pub more-swept : (n : NetworkParts) (es fs gs : List Entry) (i : ℕ) → AreSwept n es fs i → BelongTo n gs → i < length n.edges → IsInner n (live_of es) i → IsLowered n fs gs i → AreSwept n es gs (i + 1)
-more-swept n es fs gs i h after i_in inner r =
+pub more_swept : (n : NetworkParts) (es fs gs : List Entry) (i : ℕ) → AreSwept n es fs i → BelongTo n gs → i < length n.edges → IsInner n (live_of es) i → IsLowered n fs gs i → AreSwept n es gs (i + 1)
+more_swept n es fs gs i h after i_in inner r =
     let x = lowered (entry fs i) r.m in
     let c : IsChange n fs gs i x = record { belong = h.belong; e_in = i_in; is = r.entry_is; live = refl } in
-    let live : (entry fs i).live ≡ true = sym (live-at fs i) ∙ (ap (λ bs. get_or bs i false) h.live ∙ inner.0) in
+    let live : (entry fs i).live ≡ true = sym (live_at fs i) ∙ (ap (λ bs. get_or bs i false) h.live ∙ inner.0) in
     let f : IsFall n fs gs i r.m = record { change = c; live = live; inner = inner.1; least = r.least } in
     record {
       belong = after;
-      live = live-same n fs gs i x c ∙ h.live;
-      anchored = ap (map (λ p. p.anchored)) r.entry_is ∙ (same-field (λ p. p.anchored) fs i x false (get_or-mapped (λ (p : Entry). p.anchored) fs i no_entry) ∙ h.anchored);
-      lefts = ap (map (λ p. p.left)) r.entry_is ∙ (same-field (λ p. p.left) fs i x (pos 0) (get_or-mapped (λ (p : Entry). p.left) fs i no_entry) ∙ h.lefts);
-      rights = ap (map (λ p. p.right)) r.entry_is ∙ (same-field (λ p. p.right) fs i x (pos 0) (get_or-mapped (λ (p : Entry). p.right) fs i no_entry) ∙ h.rights);
+      live = live_same n fs gs i x c ∙ h.live;
+      anchored = ap (map (λ p. p.anchored)) r.entry_is ∙ (same_field (λ p. p.anchored) fs i x false (get_or-mapped (λ (p : Entry). p.anchored) fs i no_entry) ∙ h.anchored);
+      lefts = ap (map (λ p. p.left)) r.entry_is ∙ (same_field (λ p. p.left) fs i x (pos 0) (get_or-mapped (λ (p : Entry). p.left) fs i no_entry) ∙ h.lefts);
+      rights = ap (map (λ p. p.right)) r.entry_is ∙ (same_field (λ p. p.right) fs i x (pos 0) (get_or-mapped (λ (p : Entry). p.right) fs i no_entry) ∙ h.rights);
       rest = ap (drop (i + 1)) r.entry_is ∙ (drop-set-lt (i + 1) fs i x (omega arith) ∙ drop-next fs es i h.rest);
       prices = λ k l in_k. ⊎_elim
-          (λ (same : k ≡ i). subst (IsSwept n (live_of es) (table_of es) (table_of gs)) (sym same) (swept-now n es fs gs i r h c))
-          (λ (away : k ≢ i). let lower : k < i = omega arith in swept-before n es fs gs i k x c lower (h.prices k lower in_k))
+          (λ (same : k ≡ i). subst (IsSwept n (live_of es) (table_of es) (table_of gs)) (sym same) (swept_now n es fs gs i r h c))
+          (λ (away : k ≢ i). let lower : k < i = omega arith in swept_before n es fs gs i k x c lower (h.prices k lower in_k))
           (cases_eq k i);
       others = λ k out.
-          ap (λ (p : Entry). p.value) (other-entry n fs gs i x k c (λ same. ⊎_elim
+          ap (λ (p : Entry). p.value) (other_entry n fs gs i x k c (λ same. ⊎_elim
           (λ dead. false≢true (sym dead ∙ (ap (λ j. get_or (live_of es) j false) same ∙ inner.0)))
           (λ hull. inner.1 (subst (IsHullNumber n) same hull))
           out))
           ∙ h.others k out;
       falls = λ k. ⊎_elim
           (λ (same : k ≡ i).
-          let new = ap (λ (p : Entry). p.value) (new-entry n fs gs i x c) in
+          let new = ap (λ (p : Entry). p.value) (new_entry n fs gs i x c) in
           let old = h.falls i in
-          let some = (fall-is n fs gs i r.m f).0 in
+          let some = (fall_is n fs gs i r.m f).0 in
           subst (λ (j : ℕ). (entry gs j).value ≤ℤ (entry es j).value) (sym same) (omega (arith, ints, new, old, some)))
-          (λ (away : k ≢ i). let e = ap (λ (p : Entry). p.value) (other-entry n fs gs i x k c away) in let f = h.falls k in omega (arith, ints, e, f))
+          (λ (away : k ≢ i). let e = ap (λ (p : Entry). p.value) (other_entry n fs gs i x k c away) in let f = h.falls k in omega (arith, ints, e, f))
           (cases_eq k i);
     }
 
 -- all edges are swept
-pub all-swept : (n : NetworkParts) (es fs : List Entry) (i : ℕ) → BelongTo n es → AreSwept n es fs i → length n.edges ≤ i → IsSweep n (live_of es) (table_of es) (table_of fs)
-all-swept n es fs i b h all =
+pub all_swept : (n : NetworkParts) (es fs : List Entry) (i : ℕ) → BelongTo n es → AreSwept n es fs i → length n.edges ≤ i → IsSweep n (live_of es) (table_of es) (table_of fs)
+all_swept n es fs i b h all =
     record {
       one_each = length-map fs (λ (p : Entry). p.value) ∙ (h.belong.one_each ∙ (sym b.one_each ∙ sym (length-map es (λ (p : Entry). p.value))));
       prices = λ k k_in inner. h.prices k (omega arith) inner;
-      others = λ k out. value-is fs k ∙ (h.others k out ∙ sym (value-is es k));
+      others = λ k out. value_is fs k ∙ (h.others k out ∙ sym (value_is es k));
       lefts = h.lefts;
       rights = h.rights;
     }

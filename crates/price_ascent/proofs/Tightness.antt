@@ -13,8 +13,8 @@ use Rattle.price_ascent.specs.Ascent.{IsRaisedAlong, IsTighten, both_sides}
 use Rattle.price_ascent.specs.Belonging.{BelongTo, IsBareSide}
 use Rattle.price_ascent.specs.Entries.{anchored_edges, entry, live_of, no_entry, prices_of, table_of}
 use Rattle.price_ascent.specs.Raised.{AreRaised, IsSettled}
-use Rattle.price_ascent.proofs.Changed.{hull-of}
-use Rattle.price_ascent.proofs.Ends.{hull-number-there}
+use Rattle.price_ascent.proofs.Changed.{hull_of}
+use Rattle.price_ascent.proofs.Ends.{hull_number_there}
 use Rattle.price_ascent.proofs.Kept.{get_or-mapped, priced-kept}
 use Rattle.price_ascent.proofs.Raised.{along-append}
 
@@ -35,29 +35,29 @@ tightened n es fs gs r =
     (subst (λ (bs : List Bool). IsRaisedAlong n bs (flat_map both_sides (anchored_edges n fs)) (table_of fs) (table_of gs)) r.hull.live second))
 
 -- a settled side whose anchor is 0 where no live triangle is on it
-tight-side : (n : NetworkParts) (es : List Entry) (u v : ℕ) (y : ℤ) → IsSettled n es u v → (IsBareSide n.points (prices_of n es) u v → y ≡ pos 0)
+tight_side : (n : NetworkParts) (es : List Entry) (u v : ℕ) (y : ℤ) → IsSettled n es u v → (IsBareSide n.points (prices_of n es) u v → y ≡ pos 0)
     → IsTightSide n.points n.hull (prices_of n es) u v y
-tight-side n es u v y (inl (t, on, zero)) bare = inl (t, on.0, on.1, zero)
-tight-side n es u v y (inr none) bare = inr (λ t side over. none t (side, over), bare none)
+tight_side n es u v y (inl (t, on, zero)) bare = inl (t, on.0, on.1, zero)
+tight_side n es u v y (inr none) bare = inr (λ t side over. none t (side, over), bare none)
 
 -- the sides of an edge are among those of all
-left-among : (xs : List Edge) (e : Edge) → Contains xs e → Contains (flat_map both_sides xs) (e.a, e.b)
-left-among [] e h = absurd (contains-nil e h)
-left-among (x ∷ xs) e h =
+left_among : (xs : List Edge) (e : Edge) → Contains xs e → Contains (flat_map both_sides xs) (e.a, e.b)
+left_among [] e h = absurd (contains-nil e h)
+left_among (x ∷ xs) e h =
     let rest = flat_map both_sides xs in
     ⊎_elim
     (λ (same : x ≡ e). subst (λ (y : Edge). Contains ((x.a, x.b) ∷ (x.b, x.a) ∷ rest) (y.a, y.b)) same (contains-here (x.a, x.b) ((x.b, x.a) ∷ rest)))
-    (λ (later : Contains xs e). contains-later (x.a, x.b) (e.a, e.b) ((x.b, x.a) ∷ rest) (contains-later (x.b, x.a) (e.a, e.b) rest (left-among xs e later)))
+    (λ (later : Contains xs e). contains-later (x.a, x.b) (e.a, e.b) ((x.b, x.a) ∷ rest) (contains-later (x.b, x.a) (e.a, e.b) rest (left_among xs e later)))
     (contains-cases x e xs h)
 
-right-among : (xs : List Edge) (e : Edge) → Contains xs e → Contains (flat_map both_sides xs) (e.b, e.a)
-right-among [] e h = absurd (contains-nil e h)
-right-among (x ∷ xs) e h =
+right_among : (xs : List Edge) (e : Edge) → Contains xs e → Contains (flat_map both_sides xs) (e.b, e.a)
+right_among [] e h = absurd (contains-nil e h)
+right_among (x ∷ xs) e h =
     let rest = flat_map both_sides xs in
     ⊎_elim
     (λ (same : x ≡ e). subst (λ (y : Edge). Contains ((x.a, x.b) ∷ (x.b, x.a) ∷ rest) (y.b, y.a)) same
     (contains-later (x.a, x.b) (x.b, x.a) ((x.b, x.a) ∷ rest) (contains-here (x.b, x.a) rest)))
-    (λ (later : Contains xs e). contains-later (x.a, x.b) (e.b, e.a) ((x.b, x.a) ∷ rest) (contains-later (x.b, x.a) (e.b, e.a) rest (right-among xs e later)))
+    (λ (later : Contains xs e). contains-later (x.a, x.b) (e.b, e.a) ((x.b, x.a) ∷ rest) (contains-later (x.b, x.a) (e.b, e.a) rest (right_among xs e later)))
     (contains-cases x e xs h)
 
 -- the number of an anchored edge
@@ -67,23 +67,23 @@ anchored-number n es e has =
     (r.0, r.1, get_or_default n.edges r.0 _ e r.1 ∙ r.3, sym (get_or-mapped (λ (p : Entry). p.anchored) es r.0 no_entry) ∙ r.2)
 
 -- the anchors of an anchored edge
-left-zero : (n : NetworkParts) (es : List Entry) (k : ℕ) → BelongTo n es → k < length n.edges → (entry es k).anchored ≡ true
+left_zero : (n : NetworkParts) (es : List Entry) (k : ℕ) → BelongTo n es → k < length n.edges → (entry es k).anchored ≡ true
     → IsBareSide n.points (prices_of n es) (edge_at n k).a (edge_at n k).b → (priced (prices_of n es) (edge_at n k).a (edge_at n k).b).left ≡ pos 0
-left-zero n es k b k_in anchored bare =
+left_zero n es k b k_in anchored bare =
     let h = b.each k k_in in
     ap (λ (p : Priced). p.left) (priced-kept n es k _ _ b.network b.one_each (h.inner anchored).0 (k_in, Joins-ends (edge_at n k))) ∙ h.bare_left bare
 
-right-zero : (n : NetworkParts) (es : List Entry) (k : ℕ) → BelongTo n es → k < length n.edges → (entry es k).anchored ≡ true
+right_zero : (n : NetworkParts) (es : List Entry) (k : ℕ) → BelongTo n es → k < length n.edges → (entry es k).anchored ≡ true
     → IsBareSide n.points (prices_of n es) (edge_at n k).b (edge_at n k).a → (priced (prices_of n es) (edge_at n k).a (edge_at n k).b).right ≡ pos 0
-right-zero n es k b k_in anchored bare =
+right_zero n es k b k_in anchored bare =
     let h = b.each k k_in in
     ap (λ (p : Priced). p.right) (priced-kept n es k _ _ b.network b.one_each (h.inner anchored).0 (k_in, Joins-ends (edge_at n k))) ∙ h.bare_right bare
 
-hull-zero : (n : NetworkParts) (es : List Entry) (u v : ℕ) → BelongTo n es → IsHullPair n.hull u v → IsBareSide n.points (prices_of n es) u v → (priced (prices_of n es) u v).value ≡ pos 0
-hull-zero n es u v b pair bare =
-    let k = hull-number-there n u v b.network pair in
+hull_zero : (n : NetworkParts) (es : List Entry) (u v : ℕ) → BelongTo n es → IsHullPair n.hull u v → IsBareSide n.points (prices_of n es) u v → (priced (prices_of n es) u v).value ≡ pos 0
+hull_zero n es u v b pair bare =
+    let k = hull_number_there n u v b.network pair in
     let h = b.each k.0 k.1.0 in
-    ap (λ (p : Priced). p.value) (priced-kept n es k.0 u v b.network b.one_each (h.hull_live (hull-of n k.0 u v k.1 pair)) k.1) ∙ h.bare_hull u v k.1 pair bare
+    ap (λ (p : Priced). p.value) (priced-kept n es k.0 u v b.network b.one_each (h.hull_live (hull_of n k.0 u v k.1 pair)) k.1) ∙ h.bare_hull u v k.1 pair bare
 
 -- the prices are tight
 pub tight : (n : NetworkParts) (es fs gs : List Entry) → AreTightened n es fs gs → IsTight n.points n.hull (anchored_edges n gs) (prices_of n gs)
@@ -91,15 +91,15 @@ tight n es fs gs r =
     let b = r.inner.belong in
     let back : anchored_edges n gs ≡ anchored_edges n fs = ap (live_edges n) r.inner.anchored in
     record {
-      hull_sides = λ u v pair. tight-side n gs u v _ (⊎_elim (λ none. absurd (contains-nil (u, v) none)) (λ s. r.inner.keeps u v s) (r.hull.settled u v pair)) (hull-zero n gs u v b pair);
+      hull_sides = λ u v pair. tight_side n gs u v _ (⊎_elim (λ none. absurd (contains-nil (u, v) none)) (λ s. r.inner.keeps u v s) (r.hull.settled u v pair)) (hull_zero n gs u v b pair);
       lefts = λ e has.
           let k = anchored-number n gs e has in
-          tight-side n gs e.a e.b _
-          (⊎_elim (λ none. absurd (contains-nil (e.a, e.b) none)) (λ s. s) (r.inner.settled e.a e.b (left-among (anchored_edges n fs) e (subst (λ (xs : List Edge). Contains xs e) back has))))
-          (subst (λ (x : Edge). IsBareSide n.points (prices_of n gs) x.a x.b → (priced (prices_of n gs) x.a x.b).left ≡ pos 0) k.2 (left-zero n gs k.0 b k.1 k.3));
+          tight_side n gs e.a e.b _
+          (⊎_elim (λ none. absurd (contains-nil (e.a, e.b) none)) (λ s. s) (r.inner.settled e.a e.b (left_among (anchored_edges n fs) e (subst (λ (xs : List Edge). Contains xs e) back has))))
+          (subst (λ (x : Edge). IsBareSide n.points (prices_of n gs) x.a x.b → (priced (prices_of n gs) x.a x.b).left ≡ pos 0) k.2 (left_zero n gs k.0 b k.1 k.3));
       rights = λ e has.
           let k = anchored-number n gs e has in
-          tight-side n gs e.b e.a _
-          (⊎_elim (λ none. absurd (contains-nil (e.b, e.a) none)) (λ s. s) (r.inner.settled e.b e.a (right-among (anchored_edges n fs) e (subst (λ (xs : List Edge). Contains xs e) back has))))
-          (subst (λ (x : Edge). IsBareSide n.points (prices_of n gs) x.b x.a → (priced (prices_of n gs) x.a x.b).right ≡ pos 0) k.2 (right-zero n gs k.0 b k.1 k.3));
+          tight_side n gs e.b e.a _
+          (⊎_elim (λ none. absurd (contains-nil (e.b, e.a) none)) (λ s. s) (r.inner.settled e.b e.a (right_among (anchored_edges n fs) e (subst (λ (xs : List Edge). Contains xs e) back has))))
+          (subst (λ (x : Edge). IsBareSide n.points (prices_of n gs) x.b x.a → (priced (prices_of n gs) x.a x.b).right ≡ pos 0) k.2 (right_zero n gs k.0 b k.1 k.3));
     }

@@ -13,7 +13,7 @@ use Rattle.skeleton_faces.specs.Turning.{AreNexts}
 use Rattle.skeleton_faces.specs.Rounds.{AreFollowing, AreTraced, IsCycleFrom, step_on}
 use Rattle.skeleton_faces.proofs.Cycles.{round_is}
 use Rattle.skeleton_faces.proofs.Nexts.{nexts_only}
-use Rattle.skeleton_faces.proofs.SideNumbers.{side-of}
+use Rattle.skeleton_faces.proofs.SideNumbers.{side_of}
 use Rattle.skeleton_faces.proofs.Traces.{all_done}
 use Rattle.skeleton_faces.proofs.Ways.{step_in}
 
@@ -68,7 +68,7 @@ AreFaces-traced ps es nexts rounds clear n t =
       each = All-weaker (IsCycleFrom es nexts (length es)) (IsFace ps es) (λ c h. IsFace-cycle ps es nexts c n f h) (pieces rounds.starts.items rounds.bounds.items) t.each;
       ascending = t.ascending;
       all = λ u v edge.
-          let (s, s_in, start, end) = side-of es u v edge in
+          let (s, s_in, start, end) = side_of es u v edge in
           let s_there : s < length nexts = omega (arith, n.one_each) in
           Any-weaker _ (λ c. HasRoundSide c u v)
           (λ c h. let (k, k_in, from, to) = h in (k, k_in, from ∙ start, to ∙ end))

@@ -13,11 +13,11 @@ abbrev pub AreLeftward : Point → Point → Point → Point → Type 0
 AreLeftward o p q r =
     ((pos 0 <ℤ orient o p q) × (pos 0 <ℤ orient o q r)) ⊎ (((pos 0 <ℤ orient o q r) × (pos 0 <ℤ orient o r p)) ⊎ ((pos 0 <ℤ orient o r p) × (pos 0 <ℤ orient o p q)))
 
-pub leftward-next : (o p q r : Point) → AreLeftward o p q r → AreLeftward o q r p
-leftward-next o p q r h = ⊎_elim (λ a. inr (inr a)) (λ k. ⊎_elim (λ b. inl b) (λ c. inr (inl c)) k) h
+pub leftward_next : (o p q r : Point) → AreLeftward o p q r → AreLeftward o q r p
+leftward_next o p q r h = ⊎_elim (λ a. inr (inr a)) (λ k. ⊎_elim (λ b. inl b) (λ c. inr (inl c)) k) h
 
-pub leftward-clockwise : (o p q r : Point) → AreLeftward o p q r → AreClockwise o q p r
-leftward-clockwise o p q r h =
+pub leftward_clockwise : (o p q r : Point) → AreLeftward o p q r → AreClockwise o q p r
+leftward_clockwise o p q r h =
     let e1 = orient_swapped_last o p q in
     let e2 = orient_swapped_last o q r in
     let e3 = orient_swapped_last o r p in

@@ -13,13 +13,13 @@ drop_all [] = refl
 drop_all (x ∷ xs) = drop_all xs
 
 -- a piece of the list stays when more is appended
-piece-append : (xs ys : List ℕ) (a b : ℕ) → a ≤ b → b ≤ length xs → slice_range (xs ++ ys) a b ≡ slice_range xs a b
-piece-append xs ys a b l m =
+piece_append : (xs ys : List ℕ) (a b : ℕ) → a ≤ b → b ≤ length xs → slice_range (xs ++ ys) a b ≡ slice_range xs a b
+piece_append xs ys a b l m =
     ap (take (b - a)) (drop_on a xs ys (omega arith)) ∙ take-append-le (b - a) (drop a xs) ys (omega (arith, length-drop a xs))
 
 -- and what is appended is the last piece
-piece-last : (xs ys : List ℕ) → slice_range (xs ++ ys) (length xs) (length (xs ++ ys)) ≡ ys
-piece-last xs ys =
+piece_last : (xs ys : List ℕ) → slice_range (xs ++ ys) (length xs) (length (xs ++ ys)) ≡ ys
+piece_last xs ys =
     ap (take (length (xs ++ ys) - length xs)) (drop_on (length xs) xs ys (omega arith) ∙ ap (λ zs. zs ++ ys) (drop_all xs))
     ∙ take_all (length (xs ++ ys) - length xs) ys (omega (arith, length-append xs ys))
 
@@ -36,12 +36,12 @@ get_or-cut xs from (to ∷ bounds) (suc i) l = get_or-cut xs to bounds i (omega 
 -- a piece more at the end
 cut-append : (xs ys : List ℕ) (from : ℕ) (bounds : List ℕ) → ((k : ℕ) → k < length bounds → slice_index (from ∷ bounds) k ≤ slice_index bounds k) → slice_index (from ∷ bounds) (length bounds) ≡ length xs
     → cut (xs ++ ys) from (bounds ++ length (xs ++ ys) ∷ []) ≡ cut xs from bounds ++ ys ∷ []
-cut-append xs ys from [] rise last = ap (λ z. z ∷ []) (ap (λ a. slice_range (xs ++ ys) a (length (xs ++ ys))) last ∙ piece-last xs ys)
+cut-append xs ys from [] rise last = ap (λ z. z ∷ []) (ap (λ a. slice_range (xs ++ ys) a (length (xs ++ ys))) last ∙ piece_last xs ys)
 cut-append xs ys from (to ∷ bounds) rise last =
     let first = rise 0 (omega arith) in
     let rest = cut-append xs ys to bounds (λ k l. rise (suc k) (omega arith)) last in
     let to_in : to ≤ length xs = subst (λ n. to ≤ n) last (top (length bounds) (omega arith)) in
-    ap (λ z. z ∷ cut (xs ++ ys) to (bounds ++ length (xs ++ ys) ∷ [])) (piece-append xs ys from to first to_in) ∙ ap (λ zs. slice_range xs from to ∷ zs) rest
+    ap (λ z. z ∷ cut (xs ++ ys) to (bounds ++ length (xs ++ ys) ∷ [])) (piece_append xs ys from to first to_in) ∙ ap (λ zs. slice_range xs from to ∷ zs) rest
   where
     top : (k : ℕ) → k ≤ length bounds → to ≤ slice_index (to ∷ bounds) k
     top zero l = omega arith

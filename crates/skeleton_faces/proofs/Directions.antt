@@ -17,7 +17,7 @@ use Rattle.exact_predicates.proofs.HalfPlane.{IsForward, cross, cross_swap, cros
 use Rattle.exact_predicates.proofs.ListFacts.{AllPairs-IsPermutation}
 use Rattle.exact_predicates.specs.PointSet.{point_at}
 use Rattle.skeleton_faces.specs.Marks.{nth_edge}
-use Rattle.skeleton_faces.proofs.SideNumbers.{forward-is, backward-is, half-forward, half-backward}
+use Rattle.skeleton_faces.proofs.SideNumbers.{forward_is, backward_is, half_forward, half_backward}
 use Rattle.skeleton_faces.specs.declared.ray.Ray.{Ray}
 use Rattle.skeleton_faces.specs.Rays.{AreRays, IsRay, ray_cmp}
 use mir.Syntax.{w64}
@@ -125,16 +125,16 @@ pub record AreBuilt (ps : List Point) (es : List Edge) (n : ℕ) (rays : List Ra
 abbrev pub is_before : Ray → Ray → Bool
 is_before s t = is_lt (ray_cmp s t)
 
-pub is_before-order : IsStrictWeakOrder is_before
-is_before-order = ranks_by ray_total (λ (r : Ray). r)
+pub is_before_order : IsStrictWeakOrder is_before
+is_before_order = ranks_by ray_total (λ (r : Ray). r)
 
 pub some_ray : Ray
 some_ray = record { from = 0; backward = false; width = pos 1; height = pos 0; side = 0; narrow = omega arith; low = omega arith; rightwards = omega (arith, ints); or_up = λ e. absurd (omega (arith, ints)) }
 
 -- the rays of one edge more
-pub built-more : (ps : List Point) (es : List Edge) (n : ℕ) (rays after : List Ray) (s t : Ray) → AreBuilt ps es n rays → IsRay ps es s → s.side ≡ 2 * n → IsRay ps es t → t.side ≡ 2 * n + 1
+pub built_more : (ps : List Point) (es : List Edge) (n : ℕ) (rays after : List Ray) (s t : Ray) → AreBuilt ps es n rays → IsRay ps es s → s.side ≡ 2 * n → IsRay ps es t → t.side ≡ 2 * n + 1
     → after ≡ (rays ++ s ∷ []) ++ t ∷ [] → AreBuilt ps es (n + 1) after
-built-more ps es n rays after s t b hs s_is ht t_is is =
+built_more ps es n rays after s t b hs s_is ht t_is is =
     let count = b.count in
     subst (AreBuilt ps es (n + 1)) (sym is)
     (record {
@@ -160,7 +160,7 @@ AreRays-sorted ps es old new b moved same sorted =
       each = All-permutation (IsRay ps es) old new moved (λ k d l. (b.each k d l).0);
       all = found;
       distinct = λ i j d l j_in e. differ _ _ (AllPairs-IsPermutation (λ (r t : Ray). eqb r.side t.side) (λ r t. nat_eq_equiv.symm r.side t.side) old new moved apart i j d l j_in) e;
-      sorted = λ i j d l j_in. sorted_far is_before is_before-order new sorted i j d (omega arith) j_in;
+      sorted = λ i j d l j_in. sorted_far is_before is_before_order new sorted i j d (omega arith) j_in;
     }
   where
     differ : (m n : ℕ) → eqb m n ≡ false → m ≢ n
@@ -182,18 +182,18 @@ module _ (ps : List Point) (es : List Edge) (n : ℕ) (e : Edge) (r : Ray) (n_in
   shown-forward side from back width height =
       record {
         side_in = omega (arith, side);
-        from = rw (side, forward-is n, half-forward n, is) from;
-        backward = rw (side, forward-is n) back;
-        width = rw (side, half-forward n, is) width;
-        height = rw (side, half-forward n, is) height;
+        from = rw (side, forward_is n, half_forward n, is) from;
+        backward = rw (side, forward_is n) back;
+        width = rw (side, half_forward n, is) width;
+        height = rw (side, half_forward n, is) height;
       }
 
   pub shown-backward : r.side ≡ 2 * n + 1 → r.from ≡ e.b → r.backward ≡ true → r.width ≡ (point_at ps e.b).x -ℤ (point_at ps e.a).x → r.height ≡ (point_at ps e.b).y -ℤ (point_at ps e.a).y → IsRay ps es r
   shown-backward side from back width height =
       record {
         side_in = omega (arith, side);
-        from = rw (side, backward-is n, half-backward n, is) from;
-        backward = rw (side, backward-is n) back;
-        width = rw (side, half-backward n, is) width;
-        height = rw (side, half-backward n, is) height;
+        from = rw (side, backward_is n, half_backward n, is) from;
+        backward = rw (side, backward_is n) back;
+        width = rw (side, half_backward n, is) width;
+        height = rw (side, half_backward n, is) height;
       }

@@ -10,7 +10,7 @@ use Rattle.exact_predicates.proofs.Equalities.{HasEdge-Contains, Joins-ends}
 use Rattle.skeleton_faces.specs.Groups.{AreLesser, AreJoinedParents, IsNaming, IsCoarser}
 use Rattle.skeleton_faces.specs.Marks.{nth_edge}
 use Rattle.skeleton_faces.specs.Walks.{AreJoined, IsConnected}
-use Rattle.skeleton_faces.proofs.Walks.{joined-itself, joined-on, joined-back, joined-name}
+use Rattle.skeleton_faces.proofs.Walks.{joined_itself, joined_on, joined_back, joined_name}
 
 -- after a write each fact of a place and its parent holds at the other places
 at_each : (R : ℕ → ℕ → Type 0) (parents : List ℕ) (q x : ℕ) → q < length parents → ((p : ℕ) → p < length parents → p ≢ q → R p (slice_index parents p)) → R q x
@@ -29,18 +29,18 @@ pub record IsOnWay (old : List ℕ) (p : ℕ) (parents : List ℕ) (place : ℕ)
   pub joined : (es : List Edge) → AreJoinedParents es old → AreJoinedParents es parents × AreJoined es p place
   pub named : (name : ℕ → ℕ) → IsNaming old name → IsNaming parents name × (name p ≡ name place)
 
-pub on_way-start : (parents : List ℕ) (p : ℕ) → AreLesser parents → IsOnWay parents p parents p
-on_way-start parents p lesser = record {
+pub on_way_start : (parents : List ℕ) (p : ℕ) → AreLesser parents → IsOnWay parents p parents p
+on_way_start parents p lesser = record {
   bound = omega arith;
   lesser = lesser;
-  joined = λ es h. (h, joined-itself es p p refl);
+  joined = λ es h. (h, joined_itself es p p refl);
   named = λ name h. (h, refl);
 }
 
 -- two steps further
-pub on_way-next : (old : List ℕ) (p : ℕ) (parents : List ℕ) (q up next : ℕ) → IsOnWay old p parents q → q < length parents → up ≡ slice_index parents q → up < q
+pub on_way_next : (old : List ℕ) (p : ℕ) (parents : List ℕ) (q up next : ℕ) → IsOnWay old p parents q → q < length parents → up ≡ slice_index parents q → up < q
     → next ≡ slice_index parents up → IsOnWay old p (set parents q next) next
-on_way-next old p parents q up next h q_in up_is below next_is =
+on_way_next old p parents q up next h q_in up_is below next_is =
     let lesser = h.lesser up (omega arith) in
     let bound = h.bound in
     record {
@@ -48,8 +48,8 @@ on_way-next old p parents q up next h q_in up_is below next_is =
       lesser = λ k k_in. at_each (λ x y. y ≤ x) parents q next q_in (λ x x_in ne. h.lesser x x_in) (omega arith) k (omega (arith, length-set parents q next));
       joined = λ es old_joined.
           let (all, here) = h.joined es old_joined in
-          let on = joined-on es q up next (subst (AreJoined es q) (sym up_is) (all q q_in)) (subst (AreJoined es up) (sym next_is) (all up (omega arith))) in
-          (λ k k_in. at_each (AreJoined es) parents q next q_in (λ x x_in ne. all x x_in) on k (omega (arith, length-set parents q next)), joined-on es p q next here on);
+          let on = joined_on es q up next (subst (AreJoined es q) (sym up_is) (all q q_in)) (subst (AreJoined es up) (sym next_is) (all up (omega arith))) in
+          (λ k k_in. at_each (AreJoined es) parents q next q_in (λ x x_in ne. all x x_in) on k (omega (arith, length-set parents q next)), joined_on es p q next here on);
       named = λ name old_named.
           let (all, here) = h.named name old_named in
           let on : name q ≡ name next = all.same q q_in ∙ (ap name (sym up_is) ∙ (all.same up (omega arith) ∙ ap name (sym next_is))) in (
@@ -121,7 +121,7 @@ pub AreGrouped-start : (n : ℕ) (es : List Edge) (parents : List ℕ) → lengt
 AreGrouped-start n es parents count own = record {
   one_each = count;
   lesser = λ p p_in. let e = own p (omega arith) in omega arith;
-  joined = λ p p_in. joined-itself es p (slice_index parents p) (sym (own p (omega arith)));
+  joined = λ p p_in. joined_itself es p (slice_index parents p) (sym (own p (omega arith)));
   name = λ p. p;
   named = record { same = λ p p_in. sym (own p (omega arith)); own = λ p p_in e. refl };
   edges = λ j l. absurd (omega arith);
@@ -147,7 +147,7 @@ AreGrouped-next n es k old new h k_in same lesser joined named =
 pub AreGrouped-one : (ps : List Point) (es : List Edge) (parents : List ℕ) → 0 < length ps → AreGrouped (length ps) es (length es) parents
     → (((p : ℕ) → 0 < p → p < length parents → slice_index parents p < p) → IsConnected ps es) × (IsConnected ps es → (p : ℕ) → 0 < p → p < length parents → slice_index parents p < p)
 AreGrouped-one ps es parents some h = (
-  λ down u v u_in v_in. joined-on es u 0 v (to_first down (suc u) u (omega arith) (omega (arith, h.one_each))) (joined-back es v 0 (to_first down (suc v) v (omega arith) (omega (arith, h.one_each)))),
+  λ down u v u_in v_in. joined_on es u 0 v (to_first down (suc u) u (omega arith) (omega (arith, h.one_each))) (joined_back es v 0 (to_first down (suc v) v (omega arith) (omega (arith, h.one_each)))),
   λ all p l p_in.
       let lesser = h.lesser p p_in in
       ⊎_elim
@@ -156,7 +156,7 @@ AreGrouped-one ps es parents some h = (
       let first_below = h.lesser 0 (omega (arith, h.one_each)) in
       let first = h.named.own 0 (omega (arith, h.one_each)) (omega arith) in
       let last = h.named.own p p_in (omega arith) in
-      let one = joined-name es h.name 0 p (λ x y edge. named_edge x y edge) (all 0 p some (omega (arith, h.one_each))) in
+      let one = joined_name es h.name 0 p (λ x y edge. named_edge x y edge) (all 0 p some (omega (arith, h.one_each))) in
       absurd (omega arith))
       (cases_lt (slice_index parents p) p),
 )
@@ -165,8 +165,8 @@ AreGrouped-one ps es parents some h = (
     to_first down zero p l p_in = absurd (omega arith)
     to_first down (suc steps) p l p_in =
         ⊎_elim
-        (λ (m : 0 < p). let d = down p m p_in in joined-on es p (slice_index parents p) 0 (h.joined p p_in) (to_first down steps (slice_index parents p) (omega arith) (omega arith)))
-        (λ (z : p ≤ 0). joined-itself es p 0 (omega arith))
+        (λ (m : 0 < p). let d = down p m p_in in joined_on es p (slice_index parents p) 0 (h.joined p p_in) (to_first down steps (slice_index parents p) (omega arith) (omega arith)))
+        (λ (z : p ≤ 0). joined_itself es p 0 (omega arith))
         (cases_lt 0 p)
 
     named_edge : (x y : ℕ) → HasEdge es x y → h.name x ≡ h.name y

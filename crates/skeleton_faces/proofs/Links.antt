@@ -33,9 +33,9 @@ abbrev pub AreLinkedTo : List Edge → List ℕ → ℕ → List ℕ → Type 0
 AreLinkedTo es order n nexts = (q : ℕ) → q < n → (p : ℕ) × IsBefore es order q p × (slice_index nexts (twin (slice_index order q)) ≡ slice_index order p)
 
 -- one more
-pub linked-more : (es : List Edge) (order nexts : List ℕ) (n p x : ℕ) → AllPairs (λ s t. s ≢ t) order → n < length order → x ≡ twin (slice_index order n) → x < length nexts → IsBefore es order n p
+pub linked_more : (es : List Edge) (order nexts : List ℕ) (n p x : ℕ) → AllPairs (λ s t. s ≢ t) order → n < length order → x ≡ twin (slice_index order n) → x < length nexts → IsBefore es order n p
     → AreLinkedTo es order n nexts → AreLinkedTo es order (n + 1) (set nexts x (slice_index order p))
-linked-more es order nexts n p x distinct n_in x_is x_in before h =
+linked_more es order nexts n p x distinct n_in x_is x_in before h =
     below_more _ n
     (λ q l. let (r, b, is) = h q l in
     (r, b, get_or-set_other nexts x (twin (slice_index order q)) (slice_index order p) 0 (λ e. distinct q n 0 l n_in (sym (twin-twin (slice_index order q)) ∙ (ap twin (e ∙ x_is) ∙ twin-twin (slice_index order n)))) ∙ is))

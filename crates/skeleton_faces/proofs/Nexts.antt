@@ -14,8 +14,8 @@ use Rattle.skeleton_faces.specs.Faces.{AreClear, AreClockwise, IsNextSide}
 use Rattle.skeleton_faces.specs.Marks.{nth_edge}
 use Rattle.skeleton_faces.specs.Sides.{is_backward, side_start, side_end, twin}
 use Rattle.skeleton_faces.specs.Turning.{AreLinked, AreNexts, AreTurning, ComesAfter, IsBefore, StartsRise, TurnsTo}
-use Rattle.skeleton_faces.proofs.Clockwise.{AreLeftward, leftward-next, leftward-clockwise, two_after, two_before}
-use Rattle.skeleton_faces.proofs.SideNumbers.{IsSideOf, side_cases, forward-is, backward-is, forward-start, forward-end, backward-start, backward-end, side_only, side-edge, side-of, start-twin, end-twin, twin-in, twin-twin}
+use Rattle.skeleton_faces.proofs.Clockwise.{AreLeftward, leftward_next, leftward_clockwise, two_after, two_before}
+use Rattle.skeleton_faces.proofs.SideNumbers.{IsSideOf, side_cases, forward_is, backward_is, forward_start, forward_end, backward_start, backward_end, side_only, side_edge, side_of, start_twin, end_twin, twin-in, twin-twin}
 use Rattle.skeleton_faces.proofs.SideNumbers.IsSideOf.{goes_forward, goes_backward}
 use Rattle.skeleton_faces.proofs.Walks.{HasEdge-comm}
 
@@ -25,15 +25,15 @@ module _ (ps : List Point) (es : List Edge) (is : IsPointSet ps) (clear : AreCle
   side_ahead s s_in ahead = at s (side_cases s) s_in ahead
     where
       at : (s : ℕ) → IsSideOf s → s < 2 * length es → is_backward s ≡ false → Precedes (point_at ps (side_start es s)) (point_at ps (side_end es s))
-      at s (goes_forward e) l h = rw (forward-start es e, forward-end es e) ((IsOrdered-points ps is).rising _ _ (nth_edge es e).ascending (clear.ends_in e _ (omega arith)))
-      at s (goes_backward e) l h = absurd (false≢true (sym h ∙ backward-is e))
+      at s (goes_forward e) l h = rw (forward_start es e, forward_end es e) ((IsOrdered-points ps is).rising _ _ (nth_edge es e).ascending (clear.ends_in e _ (omega arith)))
+      at s (goes_backward e) l h = absurd (false≢true (sym h ∙ backward_is e))
 
   side_behind : (s : ℕ) → s < 2 * length es → is_backward s ≡ true → Precedes (point_at ps (side_end es s)) (point_at ps (side_start es s))
   side_behind s s_in behind = at s (side_cases s) s_in behind
     where
       at : (s : ℕ) → IsSideOf s → s < 2 * length es → is_backward s ≡ true → Precedes (point_at ps (side_end es s)) (point_at ps (side_start es s))
-      at s (goes_backward e) l h = rw (backward-start es e, backward-end es e) ((IsOrdered-points ps is).rising _ _ (nth_edge es e).ascending (clear.ends_in e _ (omega arith)))
-      at s (goes_forward e) l h = absurd (false≢true (sym (forward-is e) ∙ h))
+      at s (goes_backward e) l h = rw (backward_start es e, backward_end es e) ((IsOrdered-points ps is).rising _ _ (nth_edge es e).ascending (clear.ends_in e _ (omega arith)))
+      at s (goes_forward e) l h = absurd (false≢true (sym (forward_is e) ∙ h))
 
   -- three sides in turn
   turns_leftward : (s t u : ℕ) → s < 2 * length es → t < 2 * length es → u < 2 * length es → side_start es t ≡ side_start es s → side_start es u ≡ side_start es s → TurnsTo ps es s t → TurnsTo ps es t u
@@ -100,8 +100,8 @@ module _ (ps : List Point) (es : List Edge) (is : IsPointSet ps) (clear : AreCle
     pub IsNextSide-before : (q p : ℕ) → q < length order → IsBefore es order q p → IsNextSide ps es (side_end es (slice_index order q)) (side_start es (slice_index order q)) (side_end es (slice_index order p))
     IsNextSide-before q p q_in b =
         record {
-          side = HasEdge-comm es v u (side-edge es sq (side_in q q_in));
-          next = subst (λ (w : ℕ). HasEdge es w x) b.one_start (side-edge es sp (side_in p b.p_in));
+          side = HasEdge-comm es v u (side_edge es sq (side_in q q_in));
+          next = subst (λ (w : ℕ). HasEdge es w x) b.one_start (side_edge es sp (side_in p b.p_in));
           alone = λ same y edge.
               let at_one = place_only p q b.p_in q_in (side_only es sp sq clear.ascending (side_in p b.p_in) (side_in q q_in) b.one_start same) in
               ⊎_elim
@@ -114,7 +114,7 @@ module _ (ps : List Point) (es : List Edge) (is : IsPointSet ps) (clear : AreCle
               let (k, k_in, start, end) = placed y edge in
               let not_q : k ≢ q = λ e. not_u (sym end ∙ ap (λ z. side_end es (slice_index order z)) e) in
               let not_p : k ≢ p = λ e. not_x (sym end ∙ ap (λ z. side_end es (slice_index order z)) e) in
-              leftward-clockwise _ _ _ _ (subst (λ (z : ℕ). AreLeftward (point_at ps v) (point_at ps x) (point_at ps u) (point_at ps z)) end (around k k_in start not_q not_p b.place));
+              leftward_clockwise _ _ _ _ (subst (λ (z : ℕ). AreLeftward (point_at ps v) (point_at ps x) (point_at ps u) (point_at ps z)) end (around k k_in start not_q not_p b.place));
         }
       where
         sq : ℕ
@@ -134,7 +134,7 @@ module _ (ps : List Point) (es : List Edge) (is : IsPointSet ps) (clear : AreCle
 
         placed : (y : ℕ) → HasEdge es v y → (k : ℕ) × (k < length order) × (side_start es (slice_index order k) ≡ v) × (side_end es (slice_index order k) ≡ y)
         placed y edge =
-            let (s, s_in, start, end) = side-of es v y edge in
+            let (s, s_in, start, end) = side_of es v y edge in
             let (k, k_in, at_k) = o.all s s_in in
             let is = get_or_default order k 0 s k_in ∙ at_k in
             (k, k_in, ap (side_start es) is ∙ start, ap (side_end es) is ∙ end)
@@ -151,12 +151,12 @@ module _ (ps : List Point) (es : List Edge) (is : IsPointSet ps) (clear : AreCle
             let RoundK : ℕ → Type 0 = λ w. AreLeftward (point_at ps w) (point_at ps (side_end es (slice_index order k))) (point_at ps x) (point_at ps u) in
             ⊎_elim
             (λ (e : p + 1 ≡ q). ⊎_elim
-            (λ (l : k < p). leftward-next _ _ _ _ (subst RoundK start (leftward_at k p q l (omega arith) q_in (b.one_start ∙ sym start) (sym start))))
+            (λ (l : k < p). leftward_next _ _ _ _ (subst RoundK start (leftward_at k p q l (omega arith) q_in (b.one_start ∙ sym start) (sym start))))
             (λ (m : p ≤ k). subst Round b.one_start (leftward_at p q k (omega arith) (omega arith) k_in (sym b.one_start) (start ∙ sym b.one_start)))
             (cases_lt k p))
             (λ ends.
             let (low, high) = between k k_in start ends.0 ends.1 in
-            leftward-next _ _ _ _ (leftward-next _ _ _ _ (leftward_at q k p (omega arith) (omega arith) b.p_in start b.one_start)))
+            leftward_next _ _ _ _ (leftward_next _ _ _ _ (leftward_at q k p (omega arith) (omega arith) b.p_in start b.one_start)))
             h
 
 -- the links of the order of sides lead from each side to the next one
@@ -167,12 +167,12 @@ AreNexts-linked ps es order nexts is clear o h =
       next_in = λ s s_in. let (q, p, q_in, b, s_is, next_is) = link s s_in in subst (λ (x : ℕ). x < 2 * length es) (sym next_is) (o.each p 0 b.p_in);
       on = λ s s_in.
           let (q, p, q_in, b, s_is, next_is) = link s s_in in
-          ap (side_start es) next_is ∙ (b.one_start ∙ (sym (end-twin es (slice_index order q)) ∙ ap (side_end es) (sym s_is)));
+          ap (side_start es) next_is ∙ (b.one_start ∙ (sym (end_twin es (slice_index order q)) ∙ ap (side_end es) (sym s_is)));
       next = λ s s_in.
           let (q, p, q_in, b, s_is, next_is) = link s s_in in
           let next = IsNextSide-before ps es is clear order o q p q_in b in
-          let start_is : side_end es (slice_index order q) ≡ side_start es s = sym (start-twin es (slice_index order q)) ∙ ap (side_start es) (sym s_is) in
-          let end_is : side_start es (slice_index order q) ≡ side_end es s = sym (end-twin es (slice_index order q)) ∙ ap (side_end es) (sym s_is) in
+          let start_is : side_end es (slice_index order q) ≡ side_start es s = sym (start_twin es (slice_index order q)) ∙ ap (side_start es) (sym s_is) in
+          let end_is : side_start es (slice_index order q) ≡ side_end es s = sym (end_twin es (slice_index order q)) ∙ ap (side_end es) (sym s_is) in
           subst (λ (x : ℕ). IsNextSide ps es (side_start es s) (side_end es s) (side_end es x)) (sym next_is)
           (subst (λ (v : ℕ). IsNextSide ps es (side_start es s) v (side_end es (slice_index order p))) end_is
           (subst (λ (u : ℕ). IsNextSide ps es u (side_start es (slice_index order q)) (side_end es (slice_index order p))) start_is next));
@@ -192,8 +192,8 @@ StartsRise-turning ps es order o i j l j_in =
     let after : ComesAfter ps es (slice_index order i) (slice_index order j) = o.sorted i j 0 l j_in in
     ⊎_elim (λ (m : side_start es (slice_index order i) < side_start es (slice_index order j)). omega arith) (λ k. let k0 = k.0 in omega arith) after
 
-pub distinct-turning : (ps : List Point) (es : List Edge) (order : List ℕ) → IsPointSet ps → AreClear ps es → AreTurning ps es order → AllPairs (λ s t. s ≢ t) order
-distinct-turning ps es order is clear o i j d l j_in e =
+pub distinct_turning : (ps : List Point) (es : List Edge) (order : List ℕ) → IsPointSet ps → AreClear ps es → AreTurning ps es order → AllPairs (λ s t. s ≢ t) order
+distinct_turning ps es order is clear o i j d l j_in e =
     let i_is = get_or_default order i d 0 (omega arith) in
     let j_is = get_or_default order j d 0 j_in in
     let same = place_only ps es is clear order o i j (omega arith) j_in (sym i_is ∙ (e ∙ j_is)) in

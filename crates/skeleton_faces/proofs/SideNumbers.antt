@@ -9,17 +9,17 @@ use Rattle.exact_predicates.specs.declared.edge.Edge.{Edge}
 use Rattle.skeleton_faces.specs.Marks.{nth_edge}
 use Rattle.skeleton_faces.specs.Sides.{is_backward, side_start, side_end, twin}
 
-pub half-forward : (e : ℕ) → (2 * e) / 2 ≡ e
-half-forward e = omega arith
+pub half_forward : (e : ℕ) → (2 * e) / 2 ≡ e
+half_forward e = omega arith
 
-pub half-backward : (e : ℕ) → (2 * e + 1) / 2 ≡ e
-half-backward e = omega arith
+pub half_backward : (e : ℕ) → (2 * e + 1) / 2 ≡ e
+half_backward e = omega arith
 
-pub forward-is : (e : ℕ) → is_backward (2 * e) ≡ false
-forward-is e = ne_eqb ((2 * e) % 2) 1 (λ h. omega arith)
+pub forward_is : (e : ℕ) → is_backward (2 * e) ≡ false
+forward_is e = ne_eqb ((2 * e) % 2) 1 (λ h. omega arith)
 
-pub backward-is : (e : ℕ) → is_backward (2 * e + 1) ≡ true
-backward-is e = eq-eqb ((2 * e + 1) % 2) 1 (omega arith)
+pub backward_is : (e : ℕ) → is_backward (2 * e + 1) ≡ true
+backward_is e = eq-eqb ((2 * e + 1) % 2) 1 (omega arith)
 
 -- a side goes forward or backward along some edge
 pub data IsSideOf : ℕ → Type 0 where
@@ -34,51 +34,51 @@ side_cases s =
     (⊎_elim (λ (l : s % 2 < 1). inl (omega arith)) (λ (m : 1 ≤ s % 2). inr (omega arith)) (cases_lt (s % 2) 1))
 
 -- the two ends of a side forward, and of one backward
-pub forward-start : (es : List Edge) (e : ℕ) → side_start es (2 * e) ≡ (nth_edge es e).a
-forward-start es e = rw (forward-is e, half-forward e) refl
+pub forward_start : (es : List Edge) (e : ℕ) → side_start es (2 * e) ≡ (nth_edge es e).a
+forward_start es e = rw (forward_is e, half_forward e) refl
 
-pub forward-end : (es : List Edge) (e : ℕ) → side_end es (2 * e) ≡ (nth_edge es e).b
-forward-end es e = rw (forward-is e, half-forward e) refl
+pub forward_end : (es : List Edge) (e : ℕ) → side_end es (2 * e) ≡ (nth_edge es e).b
+forward_end es e = rw (forward_is e, half_forward e) refl
 
-pub backward-start : (es : List Edge) (e : ℕ) → side_start es (2 * e + 1) ≡ (nth_edge es e).b
-backward-start es e = rw (backward-is e, half-backward e) refl
+pub backward_start : (es : List Edge) (e : ℕ) → side_start es (2 * e + 1) ≡ (nth_edge es e).b
+backward_start es e = rw (backward_is e, half_backward e) refl
 
-pub backward-end : (es : List Edge) (e : ℕ) → side_end es (2 * e + 1) ≡ (nth_edge es e).a
-backward-end es e = rw (backward-is e, half-backward e) refl
+pub backward_end : (es : List Edge) (e : ℕ) → side_end es (2 * e + 1) ≡ (nth_edge es e).a
+backward_end es e = rw (backward_is e, half_backward e) refl
 
-pub forward-twin : (e : ℕ) → twin (2 * e) ≡ 2 * e + 1
-forward-twin e = rw (forward-is e) refl
+pub forward_twin : (e : ℕ) → twin (2 * e) ≡ 2 * e + 1
+forward_twin e = rw (forward_is e) refl
 
-pub backward-twin : (e : ℕ) → twin (2 * e + 1) ≡ 2 * e
-backward-twin e = rw (backward-is e) (omega arith)
+pub backward_twin : (e : ℕ) → twin (2 * e + 1) ≡ 2 * e
+backward_twin e = rw (backward_is e) (omega arith)
 
 pub twin-twin : (s : ℕ) → twin (twin s) ≡ s
 twin-twin s = at s (side_cases s)
   where
     at : (s : ℕ) → IsSideOf s → twin (twin s) ≡ s
-    at s (goes_forward e) = ap twin (forward-twin e) ∙ backward-twin e
-    at s (goes_backward e) = ap twin (backward-twin e) ∙ forward-twin e
+    at s (goes_forward e) = ap twin (forward_twin e) ∙ backward_twin e
+    at s (goes_backward e) = ap twin (backward_twin e) ∙ forward_twin e
 
 pub twin-in : (s n : ℕ) → s < 2 * n → twin s < 2 * n
 twin-in s n l = at s (side_cases s) l
   where
     at : (s : ℕ) → IsSideOf s → s < 2 * n → twin s < 2 * n
-    at s (goes_forward e) l = omega (arith, forward-twin e)
-    at s (goes_backward e) l = omega (arith, backward-twin e)
+    at s (goes_forward e) l = omega (arith, forward_twin e)
+    at s (goes_backward e) l = omega (arith, backward_twin e)
 
-pub start-twin : (es : List Edge) (s : ℕ) → side_start es (twin s) ≡ side_end es s
-start-twin es s = at s (side_cases s)
+pub start_twin : (es : List Edge) (s : ℕ) → side_start es (twin s) ≡ side_end es s
+start_twin es s = at s (side_cases s)
   where
     at : (s : ℕ) → IsSideOf s → side_start es (twin s) ≡ side_end es s
-    at s (goes_forward e) = ap (side_start es) (forward-twin e) ∙ (backward-start es e ∙ sym (forward-end es e))
-    at s (goes_backward e) = ap (side_start es) (backward-twin e) ∙ (forward-start es e ∙ sym (backward-end es e))
+    at s (goes_forward e) = ap (side_start es) (forward_twin e) ∙ (backward_start es e ∙ sym (forward_end es e))
+    at s (goes_backward e) = ap (side_start es) (backward_twin e) ∙ (forward_start es e ∙ sym (backward_end es e))
 
-pub end-twin : (es : List Edge) (s : ℕ) → side_end es (twin s) ≡ side_start es s
-end-twin es s = at s (side_cases s)
+pub end_twin : (es : List Edge) (s : ℕ) → side_end es (twin s) ≡ side_start es s
+end_twin es s = at s (side_cases s)
   where
     at : (s : ℕ) → IsSideOf s → side_end es (twin s) ≡ side_start es s
-    at s (goes_forward e) = ap (side_end es) (forward-twin e) ∙ (backward-end es e ∙ sym (forward-start es e))
-    at s (goes_backward e) = ap (side_end es) (backward-twin e) ∙ (forward-end es e ∙ sym (backward-start es e))
+    at s (goes_forward e) = ap (side_end es) (forward_twin e) ∙ (backward_end es e ∙ sym (forward_start es e))
+    at s (goes_backward e) = ap (side_end es) (backward_twin e) ∙ (forward_end es e ∙ sym (backward_start es e))
 
 -- edges with the same ends are one
 edge_only : (es : List Edge) (e f : ℕ) → AllPairs EdgePrecedes es → e < length es → f < length es → (nth_edge es e).a ≡ (nth_edge es f).a → (nth_edge es e).b ≡ (nth_edge es f).b → e ≡ f
@@ -97,28 +97,28 @@ side_only es s t up s_in t_in start end = at s t (side_cases s) (side_cases t) s
   where
     at : (s t : ℕ) → IsSideOf s → IsSideOf t → s < 2 * length es → t < 2 * length es → side_start es s ≡ side_start es t → side_end es s ≡ side_end es t → s ≡ t
     at s t (goes_forward e) (goes_forward f) s_in t_in start end =
-        ap (λ x. 2 * x) (edge_only es e f up (omega arith) (omega arith) (sym (forward-start es e) ∙ (start ∙ forward-start es f)) (sym (forward-end es e) ∙ (end ∙ forward-end es f)))
+        ap (λ x. 2 * x) (edge_only es e f up (omega arith) (omega arith) (sym (forward_start es e) ∙ (start ∙ forward_start es f)) (sym (forward_end es e) ∙ (end ∙ forward_end es f)))
     at s t (goes_backward e) (goes_backward f) s_in t_in start end =
-        ap (λ x. 2 * x + 1) (edge_only es e f up (omega arith) (omega arith) (sym (backward-end es e) ∙ (end ∙ backward-end es f)) (sym (backward-start es e) ∙ (start ∙ backward-start es f)))
+        ap (λ x. 2 * x + 1) (edge_only es e f up (omega arith) (omega arith) (sym (backward_end es e) ∙ (end ∙ backward_end es f)) (sym (backward_start es e) ∙ (start ∙ backward_start es f)))
     at s t (goes_forward e) (goes_backward f) s_in t_in start end =
         let h = (nth_edge es e).ascending in
         let k = (nth_edge es f).ascending in
-        absurd (omega (arith, forward-start es e, forward-end es e, backward-start es f, backward-end es f, start, end))
+        absurd (omega (arith, forward_start es e, forward_end es e, backward_start es f, backward_end es f, start, end))
     at s t (goes_backward e) (goes_forward f) s_in t_in start end =
         let h = (nth_edge es e).ascending in
         let k = (nth_edge es f).ascending in
-        absurd (omega (arith, backward-start es e, backward-end es e, forward-start es f, forward-end es f, start, end))
+        absurd (omega (arith, backward_start es e, backward_end es e, forward_start es f, forward_end es f, start, end))
 
 -- each side joins its ends, and ends that are joined have a side
-pub side-edge : (es : List Edge) (s : ℕ) → s < 2 * length es → HasEdge es (side_start es s) (side_end es s)
-side-edge es s s_in = at s (side_cases s) s_in
+pub side_edge : (es : List Edge) (s : ℕ) → s < 2 * length es → HasEdge es (side_start es s) (side_end es s)
+side_edge es s s_in = at s (side_cases s) s_in
   where
     at : (s : ℕ) → IsSideOf s → s < 2 * length es → HasEdge es (side_start es s) (side_end es s)
-    at s (goes_forward e) l = rw (forward-start es e, forward-end es e) (HasEdge-Contains es (nth_edge es e) _ _ (Joins-ends (nth_edge es e)) (Contains-get_or es e _ (omega arith)))
-    at s (goes_backward e) l = rw (backward-start es e, backward-end es e) (HasEdge-Contains es (nth_edge es e) _ _ (Joins-comm (nth_edge es e) (nth_edge es e).a (nth_edge es e).b (Joins-ends (nth_edge es e))) (Contains-get_or es e _ (omega arith)))
+    at s (goes_forward e) l = rw (forward_start es e, forward_end es e) (HasEdge-Contains es (nth_edge es e) _ _ (Joins-ends (nth_edge es e)) (Contains-get_or es e _ (omega arith)))
+    at s (goes_backward e) l = rw (backward_start es e, backward_end es e) (HasEdge-Contains es (nth_edge es e) _ _ (Joins-comm (nth_edge es e) (nth_edge es e).a (nth_edge es e).b (Joins-ends (nth_edge es e))) (Contains-get_or es e _ (omega arith)))
 
-pub side-of : (es : List Edge) (u v : ℕ) → HasEdge es u v → (s : ℕ) × (s < 2 * length es) × (side_start es s ≡ u) × (side_end es s ≡ v)
-side-of es u v (k, e, k_in, at_k, j) =
+pub side_of : (es : List Edge) (u v : ℕ) → HasEdge es u v → (s : ℕ) × (s < 2 * length es) × (side_start es s ≡ u) × (side_end es s ≡ v)
+side_of es u v (k, e, k_in, at_k, j) =
     let is : nth_edge es k ≡ e = get_or_default es k _ e k_in ∙ at_k in
     let rise = e.ascending in
     let j0 = j.0 in
@@ -126,6 +126,6 @@ side-of es u v (k, e, k_in, at_k, j) =
     let a_is = ap (λ (f : Edge). f.a) is in
     let b_is = ap (λ (f : Edge). f.b) is in
     ⊎_elim
-    (λ (l : u < v). (2 * k, omega arith, omega (arith, forward-start es k), omega (arith, forward-end es k)))
-    (λ (m : v ≤ u). (2 * k + 1, omega arith, omega (arith, backward-start es k), omega (arith, backward-end es k)))
+    (λ (l : u < v). (2 * k, omega arith, omega (arith, forward_start es k), omega (arith, forward_end es k)))
+    (λ (m : v ≤ u). (2 * k + 1, omega arith, omega (arith, backward_start es k), omega (arith, backward_end es k)))
     (cases_lt u v)

@@ -17,7 +17,7 @@ use Rattle.skeleton_faces.specs.Rounds.{AreClosed, AreFollowing, AreTraced, IsCy
 use Rattle.skeleton_faces.proofs.Cuts.{pieces-append}
 use Rattle.skeleton_faces.proofs.Cycles.{round_is, starts_round}
 use Rattle.skeleton_faces.proofs.Passes.{later_start}
-use Rattle.skeleton_faces.proofs.SideNumbers.{IsSideOf, side_cases, forward-start, forward-end, backward-start, backward-end}
+use Rattle.skeleton_faces.proofs.SideNumbers.{IsSideOf, side_cases, forward_start, forward_end, backward_start, backward_end}
 use Rattle.skeleton_faces.proofs.SideNumbers.IsSideOf.{goes_forward, goes_backward}
 use Rattle.skeleton_faces.proofs.Ways.{step_in}
 
@@ -37,13 +37,13 @@ module _ (es : List Edge) (nexts : List ℕ) (f : AreFollowing es nexts) (done :
     where
       at : (n t : ℕ) → ((t : ℕ) → t < length nexts → get_or done t false ≡ false → side_start es t < n → (e : ℕ) × (e < length es) × (get_or done (2 * e) false ≡ false) × ((nth_edge es e).a ≤ side_start es t))
           → IsSideOf t → t < length nexts → get_or done t false ≡ false → side_start es t < suc n → (e : ℕ) × (e < length es) × (get_or done (2 * e) false ≡ false) × ((nth_edge es e).a ≤ side_start es t)
-      at n t earlier (goes_forward e) t_in down l = (e, omega (arith, f.one_each), down, omega (arith, forward-start es e))
+      at n t earlier (goes_forward e) t_in down l = (e, omega (arith, f.one_each), down, omega (arith, forward_start es e))
       at n t earlier (goes_backward e) t_in down l =
           let rise = (nth_edge es e).ascending in
           let s = slice_index nexts (2 * e + 1) in
-          let start = f.on (2 * e + 1) t_in ∙ backward-end es e in
-          let (k, k_in, k_down, k_low) = earlier s (f.inside (2 * e + 1) t_in) (undone_next (2 * e + 1) t_in down) (omega (arith, backward-start es e)) in
-          (k, k_in, k_down, omega (arith, backward-start es e))
+          let start = f.on (2 * e + 1) t_in ∙ backward_end es e in
+          let (k, k_in, k_down, k_low) = earlier s (f.inside (2 * e + 1) t_in) (undone_next (2 * e + 1) t_in down) (omega (arith, backward_start es e)) in
+          (k, k_in, k_down, omega (arith, backward_start es e))
 
       by_start : (n t : ℕ) → t < length nexts → get_or done t false ≡ false → side_start es t < n → (e : ℕ) × (e < length es) × (get_or done (2 * e) false ≡ false) × ((nth_edge es e).a ≤ side_start es t)
       by_start zero t t_in down l = absurd (omega arith)
@@ -57,10 +57,10 @@ module _ (es : List Edge) (nexts : List ℕ) (n : ℕ) (up : AllPairs EdgePreced
   first_in = omega (arith, f.one_each)
 
   round-zero : round_at (starts_round es nexts (2 * n) count some back) 0 ≡ (nth_edge es n).a
-  round-zero = round_is es nexts (2 * n) count some back 0 ∙ forward-start es n
+  round-zero = round_is es nexts (2 * n) count some back 0 ∙ forward_start es n
 
   round-one : round_at (starts_round es nexts (2 * n) count some back) 1 ≡ (nth_edge es n).b
-  round-one = round_is es nexts (2 * n) count some back 1 ∙ (f.on (2 * n) first_in ∙ forward-end es n)
+  round-one = round_is es nexts (2 * n) count some back 1 ∙ (f.on (2 * n) first_in ∙ forward_end es n)
 
   round-side : (k : ℕ) → (round_at (starts_round es nexts (2 * n) count some back) k ≡ side_start es (step_on nexts (2 * n) k)) × (round_at (starts_round es nexts (2 * n) count some back) (k + 1) ≡ side_end es (step_on nexts (2 * n) k))
   round-side k = (round_is es nexts (2 * n) count some back k, rw add-one (round_is es nexts (2 * n) count some back (suc k) ∙ f.on (step_on nexts (2 * n) k) (step_in es nexts f (2 * n) first_in k)))
@@ -79,14 +79,14 @@ module _ (es : List Edge) (nexts : List ℕ) (n : ℕ) (up : AllPairs EdgePreced
           let not_e : n ≢ e = λ same. apart (ap (λ x. 2 * x) same) in
           let later = not_before e down in
           let order : EdgePrecedes (nth_edge es n) (nth_edge es e) = up n e _ (omega arith) (omega (arith, f.one_each)) in
-          rw (forward-start es e, forward-end es e) order
+          rw (forward_start es e, forward_end es e) order
       at s (goes_backward e) s_in down apart =
           let rise = (nth_edge es e).ascending in
           let next_down = undone_next es nexts f r.done.items t.closed (2 * e + 1) s_in down in
           let (k, k_in, k_down, k_low) = forward_below es nexts f r.done.items t.closed (slice_index nexts (2 * e + 1)) (f.inside (2 * e + 1) s_in) next_down in
           let low = later_start es n k up (not_before k k_down) k_in in
-          let start = f.on (2 * e + 1) s_in ∙ backward-end es e in
-          inl (omega (arith, backward-start es e))
+          let start = f.on (2 * e + 1) s_in ∙ backward_end es e in
+          inl (omega (arith, backward_start es e))
 
   pub cycle_from : IsCycleFrom es nexts (n + 1) (starts_round es nexts (2 * n) count some back)
   cycle_from = record {

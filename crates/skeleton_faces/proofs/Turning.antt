@@ -21,7 +21,7 @@ use Rattle.skeleton_faces.specs.Rays.{AreRays, IsRay, ray_cmp}
 use Rattle.skeleton_faces.specs.Sides.{is_backward, side_start, side_end}
 use Rattle.skeleton_faces.specs.Turning.{AreTurning, ComesAfter}
 use Rattle.skeleton_faces.proofs.Directions.{some_ray, turned}
-use Rattle.skeleton_faces.proofs.SideNumbers.{IsSideOf, side_cases, forward-is, backward-is, half-forward, half-backward, forward-start, forward-end, backward-start, backward-end, side_only}
+use Rattle.skeleton_faces.proofs.SideNumbers.{IsSideOf, side_cases, forward_is, backward_is, half_forward, half_backward, forward_start, forward_end, backward_start, backward_end, side_only}
 use Rattle.skeleton_faces.proofs.SideNumbers.IsSideOf.{goes_forward, goes_backward}
 
 -- how o sees p by the ray r
@@ -29,13 +29,13 @@ abbrev Sees : Point → Point → Ray → Type 0
 Sees o p r =
     ((r.backward ≡ false) × (r.width ≡ p.x -ℤ o.x) × (r.height ≡ p.y -ℤ o.y)) ⊎ ((r.backward ≡ true) × (r.width ≡ o.x -ℤ p.x) × (r.height ≡ o.y -ℤ p.y))
 
-ray-sees : (ps : List Point) (es : List Edge) (r : Ray) → IsRay ps es r → Sees (point_at ps (side_start es r.side)) (point_at ps (side_end es r.side)) r
-ray-sees ps es r h = at r.side (side_cases r.side) h.backward h.width h.height
+ray_sees : (ps : List Point) (es : List Edge) (r : Ray) → IsRay ps es r → Sees (point_at ps (side_start es r.side)) (point_at ps (side_end es r.side)) r
+ray_sees ps es r h = at r.side (side_cases r.side) h.backward h.width h.height
   where
     at : (s : ℕ) → IsSideOf s → r.backward ≡ is_backward s → r.width ≡ (point_at ps (nth_edge es (s / 2)).b).x -ℤ (point_at ps (nth_edge es (s / 2)).a).x → r.height ≡ (point_at ps (nth_edge es (s / 2)).b).y -ℤ (point_at ps (nth_edge es (s / 2)).a).y
         → Sees (point_at ps (side_start es s)) (point_at ps (side_end es s)) r
-    at s (goes_forward e) back width height = rw (forward-start es e, forward-end es e) (inl (back ∙ forward-is e, rw (half-forward e) at width, rw (half-forward e) at height))
-    at s (goes_backward e) back width height = rw (backward-start es e, backward-end es e) (inr (back ∙ backward-is e, rw (half-backward e) at width, rw (half-backward e) at height))
+    at s (goes_forward e) back width height = rw (forward_start es e, forward_end es e) (inl (back ∙ forward_is e, rw (half_forward e) at width, rw (half_forward e) at height))
+    at s (goes_backward e) back width height = rw (backward_start es e, backward_end es e) (inr (back ∙ backward_is e, rw (half_backward e) at width, rw (half_backward e) at height))
 
 -- the turn between two rays that go the same way is that between their ends
 same_turn : (o p q : Point) (r t : Ray) → Sees o p r → Sees o q t → r.backward ≡ t.backward → turned r t ≡ orient o p q
@@ -101,9 +101,9 @@ not_in_line ps es s t is clear s_in t_in apart start same on = at s t (side_case
     at : (s t : ℕ) → IsSideOf s → IsSideOf t → s < 2 * length es → t < 2 * length es → s ≢ t → side_start es s ≡ side_start es t → is_backward s ≡ is_backward t
         → orient (point_at ps (side_start es s)) (point_at ps (side_end es s)) (point_at ps (side_end es t)) ≡ pos 0 → ⊥
     at s t (goes_forward e) (goes_forward f) s_in t_in apart start same on =
-        let one : (nth_edge es e).a ≡ (nth_edge es f).a = sym (forward-start es e) ∙ (start ∙ forward-start es f) in
-        let differ : (nth_edge es e).b ≢ (nth_edge es f).b = λ b_is. apart (side_only es (2 * e) (2 * f) clear.ascending s_in t_in start (forward-end es e ∙ (b_is ∙ sym (forward-end es f)))) in
-        let line : Line (nth_edge es e).a (nth_edge es e).b (nth_edge es f).b = rw (forward-start es e, forward-end es e, forward-end es f) at on in
+        let one : (nth_edge es e).a ≡ (nth_edge es f).a = sym (forward_start es e) ∙ (start ∙ forward_start es f) in
+        let differ : (nth_edge es e).b ≢ (nth_edge es f).b = λ b_is. apart (side_only es (2 * e) (2 * f) clear.ascending s_in t_in start (forward_end es e ∙ (b_is ∙ sym (forward_end es f)))) in
+        let line : Line (nth_edge es e).a (nth_edge es e).b (nth_edge es f).b = rw (forward_start es e, forward_end es e, forward_end es f) at on in
         let rise = (nth_edge es e).ascending in
         let rise_f = (nth_edge es f).ascending in
         ⊎_elim
@@ -114,9 +114,9 @@ not_in_line ps es s t is clear s_in t_in apart start same on = at s t (side_case
         clear_line ps es e (nth_edge es f).b is clear (omega arith) (omega arith) (omega arith) line)
         (cases_lt (nth_edge es e).b (nth_edge es f).b)
     at s t (goes_backward e) (goes_backward f) s_in t_in apart start same on =
-        let one : (nth_edge es e).b ≡ (nth_edge es f).b = sym (backward-start es e) ∙ (start ∙ backward-start es f) in
-        let differ : (nth_edge es e).a ≢ (nth_edge es f).a = λ a_is. apart (side_only es (2 * e + 1) (2 * f + 1) clear.ascending s_in t_in start (backward-end es e ∙ (a_is ∙ sym (backward-end es f)))) in
-        let line : Line (nth_edge es e).b (nth_edge es e).a (nth_edge es f).a = rw (backward-start es e, backward-end es e, backward-end es f) at on in
+        let one : (nth_edge es e).b ≡ (nth_edge es f).b = sym (backward_start es e) ∙ (start ∙ backward_start es f) in
+        let differ : (nth_edge es e).a ≢ (nth_edge es f).a = λ a_is. apart (side_only es (2 * e + 1) (2 * f + 1) clear.ascending s_in t_in start (backward_end es e ∙ (a_is ∙ sym (backward_end es f)))) in
+        let line : Line (nth_edge es e).b (nth_edge es e).a (nth_edge es f).a = rw (backward_start es e, backward_end es e, backward_end es f) at on in
         let rise = (nth_edge es e).ascending in
         let rise_f = (nth_edge es f).ascending in
         ⊎_elim
@@ -128,8 +128,8 @@ not_in_line ps es s t is clear s_in t_in apart start same on = at s t (side_case
         (subst (λ (x : ℕ). Line (nth_edge es f).a x (nth_edge es e).a) one
         (orient_turned (point_at ps (nth_edge es e).a) (point_at ps (nth_edge es f).a) (point_at ps (nth_edge es e).b) ∙ (orient_turned (point_at ps (nth_edge es e).b) (point_at ps (nth_edge es e).a) (point_at ps (nth_edge es f).a) ∙ line))))
         (cases_lt (nth_edge es e).a (nth_edge es f).a)
-    at s t (goes_forward e) (goes_backward f) s_in t_in apart start same on = false≢true (sym (forward-is e) ∙ (same ∙ backward-is f))
-    at s t (goes_backward e) (goes_forward f) s_in t_in apart start same on = false≢true (sym (forward-is f) ∙ (sym same ∙ backward-is e))
+    at s t (goes_forward e) (goes_backward f) s_in t_in apart start same on = false≢true (sym (forward_is e) ∙ (same ∙ backward_is f))
+    at s t (goes_backward e) (goes_forward f) s_in t_in apart start same on = false≢true (sym (forward_is f) ∙ (sym same ∙ backward_is e))
 
 -- the sides of rays in their order
 pub AreTurning-map : (ps : List Point) (es : List Edge) (rays : List Ray) (order : List ℕ) → IsPointSet ps → AreClear ps es → AreRays ps es rays → order ≡ map (λ r. r.side) rays → AreTurning ps es order
@@ -161,8 +161,8 @@ AreTurning-map ps es rays order is clear h order_is =
               (λ (w : (r.backward ≡ false) × (t.backward ≡ true)). inl (sym hr.backward ∙ w.0, sym ht.backward ∙ w.1))
               (λ (w : (r.backward ≡ t.backward) × (pos 0 ≤ℤ turned r t)).
               let same = sym hr.backward ∙ (w.0 ∙ ht.backward) in
-              let sees_t = subst (λ (x : ℕ). Sees (point_at ps x) (point_at ps (side_end es t.side)) t) (sym one) (ray-sees ps es t ht) in
-              let turn = same_turn _ _ _ r t (ray-sees ps es r hr) sees_t w.0 in
+              let sees_t = subst (λ (x : ℕ). Sees (point_at ps x) (point_at ps (side_end es t.side)) t) (sym one) (ray_sees ps es t ht) in
+              let turn = same_turn _ _ _ r t (ray_sees ps es r hr) sees_t w.0 in
               let none = not_in_line ps es r.side t.side is clear hr.side_in ht.side_in apart one same in
               inr (same, strict (turned r t) _ turn w.1 none))
               k.1,

@@ -9,31 +9,31 @@ use Rattle.skeleton_faces.specs.Walks.{LeadsTo, AreJoined}
 pub HasEdge-comm : (es : List Edge) (u v : ℕ) → HasEdge es u v → HasEdge es v u
 HasEdge-comm es u v h = Any-weaker _ _ (λ e j. Joins-comm e u v j) es h
 
-pub joined-itself : (es : List Edge) (u v : ℕ) → u ≡ v → AreJoined es u v
-joined-itself es u v e = ([], e)
+pub joined_itself : (es : List Edge) (u v : ℕ) → u ≡ v → AreJoined es u v
+joined_itself es u v e = ([], e)
 
-pub joined-edge : (es : List Edge) (u v : ℕ) → HasEdge es u v → AreJoined es u v
-joined-edge es u v h = (v ∷ [], (h, refl))
+pub joined_edge : (es : List Edge) (u v : ℕ) → HasEdge es u v → AreJoined es u v
+joined_edge es u v h = (v ∷ [], (h, refl))
 
 -- one walk after the other
-pub joined-on : (es : List Edge) (u v w : ℕ) → AreJoined es u v → AreJoined es v w → AreJoined es u w
-joined-on es u v w (walk, h) k = at walk u h
+pub joined_on : (es : List Edge) (u v w : ℕ) → AreJoined es u v → AreJoined es v w → AreJoined es u w
+joined_on es u v w (walk, h) k = at walk u h
   where
     at : (walk : List ℕ) (u : ℕ) → LeadsTo es u walk v → AreJoined es u w
     at [] u e = subst (λ (x : ℕ). AreJoined es x w) (sym e) k
     at (x ∷ xs) u (edge, rest) = let (walk, on) = at xs x rest in (x ∷ walk, (edge, on))
 
 -- and backwards
-pub joined-back : (es : List Edge) (u v : ℕ) → AreJoined es u v → AreJoined es v u
-joined-back es u v (walk, h) = at walk u h
+pub joined_back : (es : List Edge) (u v : ℕ) → AreJoined es u v → AreJoined es v u
+joined_back es u v (walk, h) = at walk u h
   where
     at : (walk : List ℕ) (u : ℕ) → LeadsTo es u walk v → AreJoined es v u
-    at [] u e = joined-itself es v u (sym e)
-    at (x ∷ xs) u (edge, rest) = joined-on es v x u (at xs x rest) (joined-edge es x u (HasEdge-comm es u x edge))
+    at [] u e = joined_itself es v u (sym e)
+    at (x ∷ xs) u (edge, rest) = joined_on es v x u (at xs x rest) (joined_edge es x u (HasEdge-comm es u x edge))
 
 -- a name that both ends of each edge have is kept along walks
-pub joined-name : (es : List Edge) (name : ℕ → ℕ) (u v : ℕ) → ((x y : ℕ) → HasEdge es x y → name x ≡ name y) → AreJoined es u v → name u ≡ name v
-joined-name es name u v same (walk, h) = at walk u h
+pub joined_name : (es : List Edge) (name : ℕ → ℕ) (u v : ℕ) → ((x y : ℕ) → HasEdge es x y → name x ≡ name y) → AreJoined es u v → name u ≡ name v
+joined_name es name u v same (walk, h) = at walk u h
   where
     at : (walk : List ℕ) (u : ℕ) → LeadsTo es u walk v → name u ≡ name v
     at [] u e = subst (λ (x : ℕ). name u ≡ name x) e refl

@@ -14,13 +14,13 @@ left_over [] = 0
 left_over (true ∷ bs) = left_over bs
 left_over (false ∷ bs) = suc (left_over bs)
 
-pub left_over-falls : (flags : List Bool) (i : ℕ) → i < length flags → get_or flags i false ≡ false → left_over (set flags i true) < left_over flags
+pub left_over_falls : (flags : List Bool) (i : ℕ) → i < length flags → get_or flags i false ≡ false → left_over (set flags i true) < left_over flags
 unfolding left_over
-left_over-falls [] i l h = absurd (omega arith)
-left_over-falls (true ∷ bs) zero l h = absurd (false≢true (sym h))
-left_over-falls (false ∷ bs) zero l h = omega arith
-left_over-falls (true ∷ bs) (suc i) l h = left_over-falls bs i (omega arith) h
-left_over-falls (false ∷ bs) (suc i) l h = let k = left_over-falls bs i (omega arith) h in omega arith
+left_over_falls [] i l h = absurd (omega arith)
+left_over_falls (true ∷ bs) zero l h = absurd (false≢true (sym h))
+left_over_falls (false ∷ bs) zero l h = omega arith
+left_over_falls (true ∷ bs) (suc i) l h = left_over_falls bs i (omega arith) h
+left_over_falls (false ∷ bs) (suc i) l h = let k = left_over_falls bs i (omega arith) h in omega arith
 
 module _ (es : List Edge) (nexts : List ℕ) (f : AreFollowing es nexts) (first : ℕ) (first_in : first < length nexts) where
   pub step_in : (k : ℕ) → step_on nexts first k < length nexts

@@ -1,11 +1,11 @@
-use Rattle.lmt_network.proofs.FlipMinimal.{closed-law, live-law, candidates-law}
+use Rattle.lmt_network.proofs.FlipMinimal.{closed_law, live_law, candidates_law}
 use Rattle.lmt_network.proofs.flip_laws.flip_minimal_laws.Goals as goal
 
 pub returns-clause-closed : goal.returns-clause-closed
-returns-clause-closed c = closed-law
+returns-clause-closed c = closed_law
 
 pub returns-clause-live : goal.returns-clause-live
-returns-clause-live c = live-law
+returns-clause-live c = live_law
 
 pub returns-clause-candidates : goal.returns-clause-candidates
-returns-clause-candidates c = candidates-law
+returns-clause-candidates c = candidates_law

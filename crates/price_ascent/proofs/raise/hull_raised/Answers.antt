@@ -1,6 +1,6 @@
 use Rattle.std.proofs.Common.{refl, arith}
 use Rattle.std.proofs.lemmas.Int.{ints}
-use Rattle.price_ascent.proofs.Equal.{same-entry}
+use Rattle.price_ascent.proofs.Equal.{same_entry}
 use Rattle.price_ascent.proofs.raise.hull_raised.Goals as goal
 
 pub returns : goal.returns
@@ -13,4 +13,4 @@ returns c =
     let up_high = c.requires.shares.up_high in
     let down_low = c.requires.shares.down_low in
     let down_high = c.requires.shares.down_high in
-    same-entry _ _ (omega (arith, ints, y0, y1, m0, m1)) (omega (arith, ints)) (omega (arith, ints)) (omega (arith, ints, up_low, up_high, m0, m1)) (omega (arith, ints, down_low, down_high, m0, m1)) refl refl
+    same_entry _ _ (omega (arith, ints, y0, y1, m0, m1)) (omega (arith, ints)) (omega (arith, ints)) (omega (arith, ints, up_low, up_high, m0, m1)) (omega (arith, ints, down_low, down_high, m0, m1)) refl refl

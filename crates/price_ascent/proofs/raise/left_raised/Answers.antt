@@ -1,6 +1,6 @@
 use Rattle.std.proofs.Common.{refl, arith}
 use Rattle.std.proofs.lemmas.Int.{ints}
-use Rattle.price_ascent.proofs.Equal.{same-entry}
+use Rattle.price_ascent.proofs.Equal.{same_entry}
 use Rattle.price_ascent.proofs.raise.left_raised.Goals as goal
 
 pub returns : goal.returns
@@ -11,4 +11,4 @@ returns c =
     let m1 = c.requires.m.1 in
     let up_low = c.requires.shares.up_low in
     let up_high = c.requires.shares.up_high in
-    same-entry _ _ (omega (arith, ints)) (omega (arith, ints, y0, y1, m0, m1)) (omega (arith, ints)) (omega (arith, ints, up_low, up_high, m0, m1)) (omega (arith, ints)) refl refl
+    same_entry _ _ (omega (arith, ints)) (omega (arith, ints, y0, y1, m0, m1)) (omega (arith, ints)) (omega (arith, ints, up_low, up_high, m0, m1)) (omega (arith, ints)) refl refl

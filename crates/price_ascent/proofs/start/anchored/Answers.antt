@@ -1,7 +1,7 @@
 use Rattle.std.proofs.Common.{refl, arith}
 use Rattle.std.proofs.lemmas.Int.{ints}
-use Rattle.price_ascent.proofs.Equal.{same-entry}
+use Rattle.price_ascent.proofs.Equal.{same_entry}
 use Rattle.price_ascent.proofs.start.anchored.Goals as goal
 
 pub returns : goal.returns
-returns c = same-entry _ _ (omega (arith, ints)) (omega (arith, ints)) (omega (arith, ints)) (omega (arith, ints)) (omega (arith, ints)) refl refl
+returns c = same_entry _ _ (omega (arith, ints)) (omega (arith, ints)) (omega (arith, ints)) (omega (arith, ints)) (omega (arith, ints)) refl refl

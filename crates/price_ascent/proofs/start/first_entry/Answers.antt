@@ -4,7 +4,7 @@ use Rattle.std.proofs.lemmas.Int.{ints}
 use Rattle.lmt_network.specs.Network.{NetworkParts}
 use Rattle.price_ascent.specs.declared.entry.Entry.{Entry}
 use Rattle.price_ascent.specs.Steps.{start_entry}
-use Rattle.price_ascent.proofs.Lowering.{inner-off}
+use Rattle.price_ascent.proofs.Lowering.{inner_off}
 use Rattle.price_ascent.proofs.Shares.{on_hull, weight_of}
 use Rattle.price_ascent.proofs.start.first_entry.Goals as goal
 
@@ -31,6 +31,6 @@ pub returns-else-is_hull-clause-value : goal.returns-else-is_hull-clause-value
 returns-else-is_hull-clause-value c =
     let n = c.args.net.now in
     let e = c.args.e in
-    let off = inner-off n e (λ hull. false≢true (sym c.if-is_hull.false ∙ c.is_hull.ensures.1 hull)) in
+    let off = inner_off n e (λ hull. false≢true (sym c.if-is_hull.false ∙ c.is_hull.ensures.1 hull)) in
     let live = sym c.live.ensures ∙ c.if-not-live.false in
     c.edge_entry-else-is_hull.ensures ∙ inner-entry n c.args.flags.now e c.weight-weight.result live off c.weight-weight.ensures.value

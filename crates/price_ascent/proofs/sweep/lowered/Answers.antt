@@ -2,7 +2,7 @@ use Rattle.std.proofs.Common.{◌≡◌, ◌*◌, ◌^◌, ℤ, pos, neg_ℤ, �
 use Rattle.std.proofs.lemmas.Int.{clamps, ints}
 use Rattle.std.specs.Int.{int_max}
 use Rattle.price_ascent.specs.Ascent.{lowest}
-use Rattle.price_ascent.proofs.Equal.{same-entry}
+use Rattle.price_ascent.proofs.Equal.{same_entry}
 use Rattle.price_ascent.proofs.sweep.lowered.Goals as goal
 
 -- a fall, counted in 64 bits
@@ -42,7 +42,7 @@ returns c =
     let up_high = c.requires.shares.up_high in
     let down_low = c.requires.shares.down_low in
     let down_high = c.requires.shares.down_high in
-    same-entry _ _ (omega (arith, ints, value)) (omega (arith, ints)) (omega (arith, ints))
+    same_entry _ _ (omega (arith, ints, value)) (omega (arith, ints)) (omega (arith, ints))
     (added kept.up kept.value c.max-value.result _ value up_low (omega (arith, ints, up_high)) low high (omega (arith, ints, clamps, value)) (omega (arith, ints, clamps, value, high)))
     (taken kept.down kept.value c.max-value.result _ value down_low (omega (arith, ints, down_high)) low high (omega (arith, ints, clamps, value)) (omega (arith, ints, clamps, value, high)))
     refl refl

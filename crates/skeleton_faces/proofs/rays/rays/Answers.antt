@@ -2,7 +2,7 @@ use Rattle.std.proofs.Common.{◌≡◌, ◌++◌, ◌∷◌, [], ℕ, ap, lengt
 use Rattle.std.proofs.lemmas.List.{get_or_default}
 use Rattle.std.proofs.lemmas.List.Sorted.{answers_always}
 use Rattle.skeleton_faces.specs.Marks.{nth_edge}
-use Rattle.skeleton_faces.proofs.Directions.{AreBuilt, AreRays-sorted, built-more, is_before, is_before-order, shown-forward, shown-backward}
+use Rattle.skeleton_faces.proofs.Directions.{AreBuilt, AreRays-sorted, built_more, is_before, is_before_order, shown-forward, shown-backward}
 use Rattle.skeleton_faces.proofs.rays.rays.Goals as goal
 
 pub loop-number-preserved : goal.loop-number-preserved
@@ -14,7 +14,7 @@ loop-number-preserved c =
     let is : nth_edge es n ≡ e = get_or_default es n _ e c.loop-number-test.true ∙ sym c.index-edges-number.is in
     let s = c.of.ensures in
     let t = c.of-in-loop-number.ensures in
-    built-more ps es n c.loop-number.rays.items c.push-in-loop-number.new.self.items c.of.result c.of-in-loop-number.result c.loop-number.invariant
+    built_more ps es n c.loop-number.rays.items c.push-in-loop-number.new.self.items c.of.result c.of-in-loop-number.result c.loop-number.invariant
     (shown-forward ps es n e c.of.result c.loop-number-test.true is s.side s.from s.backward (rw (c.at-a.ensures.value, c.at-b.ensures.value) at s.width) (rw (c.at-a.ensures.value, c.at-b.ensures.value) at s.height))
     s.side
     (shown-backward ps es n e c.of-in-loop-number.result c.loop-number-test.true is t.side t.from t.backward (rw (c.at-a.ensures.value, c.at-b.ensures.value) at t.width) (rw (c.at-a.ensures.value, c.at-b.ensures.value) at t.height))
@@ -28,4 +28,4 @@ returns c =
     let Built : ℕ → Type 0 = λ n. AreBuilt c.args.points.now.points es n c.loop-number.rays.items in
     AreRays-sorted c.args.points.now.points es c.loop-number.rays.items c.sort_unstable_by.new.self.items (subst Built n_is c.loop-number.invariant) c.sort_unstable_by.ensures.permutation
     (sym c.sort_unstable_by.new.self.ok.0 ∙ (c.sort_unstable_by.ensures.len ∙ c.loop-number.rays.ok.0))
-    (c.sort_unstable_by.ensures.sorted is_before is_before-order (answers_always _ _ _ (λ f a r g k. search (rules, of_calls))))
+    (c.sort_unstable_by.ensures.sorted is_before is_before_order (answers_always _ _ _ (λ f a r g k. search (rules, of_calls))))

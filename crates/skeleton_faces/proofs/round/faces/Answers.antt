@@ -5,7 +5,7 @@ use Rattle.skeleton_faces.specs.Rounds.{AreFollowing, AreTraced}
 use Rattle.skeleton_faces.specs.Tables.{pieces}
 use Rattle.skeleton_faces.specs.Turning.{StartsRise}
 use Rattle.skeleton_faces.proofs.AllFaces.{AreFaces-traced, AreFollowing-nexts}
-use Rattle.skeleton_faces.proofs.Nexts.{AreNexts-linked, StartsRise-turning, distinct-turning}
+use Rattle.skeleton_faces.proofs.Nexts.{AreNexts-linked, StartsRise-turning, distinct_turning}
 use Rattle.skeleton_faces.proofs.Traces.{AreTraced-start}
 use Rattle.skeleton_faces.proofs.round.faces.Goals as goal
 
@@ -13,7 +13,7 @@ pub nexts-requires-clause-distinct : goal.nexts-requires-clause-distinct
 nexts-requires-clause-distinct c =
     let clear = subst (AreClear c.args.points.now.points) (sym c.as_slice-edges.ensures.is) c.requires in
     let Distinct : List ℕ → Type 0 = AllPairs (λ s t. s ≢ t) in
-    subst Distinct (sym c.deref.ensures.value) (distinct-turning _ _ _ c.len-count.ensures.valid clear c.in_ok-order.ensures)
+    subst Distinct (sym c.deref.ensures.value) (distinct_turning _ _ _ c.len-count.ensures.valid clear c.in_ok-order.ensures)
 
 pub nexts-requires-clause-rise : goal.nexts-requires-clause-rise
 nexts-requires-clause-rise c = subst (StartsRise c.as_slice-edges.result.now) (sym c.deref.ensures.value) (StartsRise-turning c.args.points.now.points _ _ c.in_ok-order.ensures)

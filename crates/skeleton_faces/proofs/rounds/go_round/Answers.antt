@@ -1,6 +1,6 @@
 use Rattle.std.proofs.Common.{◌+◌, ◌∷◌, ◌++◌, [], slice_index, refl, ap, ◌∙◌, add-one, arith}
 use Rattle.std.proofs.lemmas.List.{length-set}
-use Rattle.skeleton_faces.proofs.Ways.{left_over-falls, way-start, way-more, way-back}
+use Rattle.skeleton_faces.proofs.Ways.{left_over_falls, way-start, way-more, way-back}
 use Rattle.skeleton_faces.proofs.rounds.go_round.Goals as goal
 
 pub loop-done-init : goal.loop-done-init
@@ -9,7 +9,7 @@ loop-done-init c = (c.requires.first_in, c.requires.one_each, (0, refl, way-star
 pub loop-done-smaller : goal.loop-done-smaller
 loop-done-smaller c =
     let i = c.loop-done.invariant in
-    left_over-falls c.loop-done.done c.loop-done.side (omega (arith, i.0, i.1)) c.loop-done-test.true
+    left_over_falls c.loop-done.done c.loop-done.side (omega (arith, i.0, i.1)) c.loop-done-test.true
 
 pub loop-done-preserved : goal.loop-done-preserved
 loop-done-preserved c =

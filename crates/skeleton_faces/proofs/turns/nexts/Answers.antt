@@ -1,6 +1,6 @@
 use Rattle.std.proofs.Common.{◌<◌, length, slice_index, ◌∙◌, arith}
 use Rattle.std.proofs.lemmas.List.{length-set}
-use Rattle.skeleton_faces.proofs.Links.{linked-more}
+use Rattle.skeleton_faces.proofs.Links.{linked_more}
 use Rattle.skeleton_faces.proofs.SideNumbers.{twin-in}
 use Rattle.skeleton_faces.proofs.turns.nexts.Goals as goal
 
@@ -13,5 +13,5 @@ loop-place-preserved c =
     let x = c.other_side.result in
     let x_in : x < length nexts = omega (arith, c.other_side.ensures, twin-in (slice_index order n) (length c.args.edges.now) (c.requires.each n 0 c.loop-place-test.true), c.loop-place.invariant.0, c.requires.count) in (
       length-set nexts x (slice_index order p) ∙ c.loop-place.invariant.0,
-      linked-more c.args.edges.now order nexts n p x c.requires.distinct c.loop-place-test.true c.other_side.ensures x_in c.before-in-loop-place.ensures c.loop-place.invariant.1,
+      linked_more c.args.edges.now order nexts n p x c.requires.distinct c.loop-place-test.true c.other_side.ensures x_in c.before-in-loop-place.ensures c.loop-place.invariant.1,
     )

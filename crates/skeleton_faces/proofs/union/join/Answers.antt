@@ -1,7 +1,7 @@
 use Rattle.std.proofs.Common.{◌≡◌, ℕ, ◌<◌, ◌≤◌, length, sym, ◌∙◌, arith}
 use Rattle.skeleton_faces.specs.Walks.{AreJoined}
 use Rattle.skeleton_faces.proofs.Groups.{AreJoinedParents-link, IsNaming-link, by_size, linked, linked-coarser, linked-both}
-use Rattle.skeleton_faces.proofs.Walks.{joined-edge, joined-on, joined-back}
+use Rattle.skeleton_faces.proofs.Walks.{joined_edge, joined_on, joined_back}
 use Rattle.skeleton_faces.proofs.union.join.Goals as goal
 
 pub returns-clause-joined : goal.returns-clause-joined
@@ -12,9 +12,9 @@ returns-clause-joined c = λ es edge h.
     let b = c.least-b.result in
     let (h1, ua) = c.least-a.ensures.joined es h in
     let (h2, vb) = c.least-b.ensures.joined es h1 in
-    let ab = joined-on es a u b (joined-back es u a ua) (joined-on es u v b (joined-edge es u v edge) vb) in
+    let ab = joined_on es a u b (joined_back es u a ua) (joined_on es u v b (joined_edge es u v edge) vb) in
     let At : ℕ → ℕ → Type 0 = AreJoined es in
-    let on = by_size At a b ab (joined-back es a b ab) in
+    let on = by_size At a b ab (joined_back es a b ab) in
     let on_are : AreJoined es c.max.result c.min.result = rw (c.max.ensures, c.min.ensures) on in
     let l = c.least-b.ensures.bound in
     let m = c.least-a.ensures.bound in

@@ -1,14 +1,14 @@
 use Rattle.std.proofs.Common.{◌≡◌, ◌∙◌}
 use Rattle.lmt_network.specs.Network.{NetworkParts}
 use Rattle.lmt_network.specs.Tables.{AreSideKeys}
-use Rattle.lmt_network.proofs.Builds.{hull-there, sides-there, network-of}
-use Rattle.lmt_network.proofs.Rows.{keys-below}
+use Rattle.lmt_network.proofs.Builds.{hull_there, sides-there, network_of}
+use Rattle.lmt_network.proofs.Rows.{keys_below}
 use Rattle.lmt_network.proofs.network.Network.build.Goals as goal
 
 pub hull_flags-requires-clause-there : goal.hull_flags-requires-clause-there
 hull_flags-requires-clause-there c =
     rw (c.as_slice-2.ensures.is, c.as_slice.ensures.is)
-    (hull-there c.args.points.now.points c.args.hull.now c.requires.candidates.0 c.args.edges c.requires.hull_is c.requires.candidates.1)
+    (hull_there c.args.points.now.points c.args.hull.now c.requires.candidates.0 c.args.edges c.requires.hull_is c.requires.candidates.1)
 
 pub side_keys-requires-clause-over : goal.side_keys-requires-clause-over
 side_keys-requires-clause-over c =
@@ -19,13 +19,13 @@ pub row_starts-requires-clause-in_range : goal.row_starts-requires-clause-in_ran
 row_starts-requires-clause-in_range c =
     let n : NetworkParts = record { points = c.args.points.now.points; hull = c.args.hull.now; edges = c.args.edges; tris = c.args.tris } in
     let keys : AreSideKeys c.args.edges c.args.tris c.in_ok-keys.keys.items = rw (c.as_slice-3.ensures.is, c.as_slice-4.ensures.is) at c.in_ok-keys.ensures in
-    rw (c.deref.ensures.value, c.len.ensures) (keys-below n c.in_ok-keys.keys.items keys)
+    rw (c.deref.ensures.value, c.len.ensures) (keys_below n c.in_ok-keys.keys.items keys)
 
 pub rows-requires-clause-in_range : goal.rows-requires-clause-in_range
 rows-requires-clause-in_range c =
     let n : NetworkParts = record { points = c.args.points.now.points; hull = c.args.hull.now; edges = c.args.edges; tris = c.args.tris } in
     let keys : AreSideKeys c.args.edges c.args.tris c.in_ok-keys.keys.items = rw (c.as_slice-3.ensures.is, c.as_slice-4.ensures.is) at c.in_ok-keys.ensures in
-    rw (c.deref-2.ensures.value, c.len-2.ensures) (keys-below n c.in_ok-keys.keys.items keys)
+    rw (c.deref-2.ensures.value, c.len-2.ensures) (keys_below n c.in_ok-keys.keys.items keys)
 
 pub invariant_of-result : goal.invariant_of-result
 invariant_of-result c =
@@ -33,7 +33,7 @@ invariant_of-result c =
     let hull : c.in_ok-hull.hull.items ≡ c.args.hull.now = c.in_ok-hull.ensures.items ∙ c.as_slice-6.ensures.is in
     let n : NetworkParts = record { points = c.args.points.now.points; hull = c.args.hull.now; edges = c.args.edges; tris = c.args.tris } in
     record {
-      network = rw (points, hull) (network-of n c.requires.candidates.0 c.as_slice-5.ensures.valid c.requires.hull_is c.requires.candidates.1 c.requires.triangles c.requires.few_edges c.requires.few_tris);
+      network = rw (points, hull) (network_of n c.requires.candidates.0 c.as_slice-5.ensures.valid c.requires.hull_is c.requires.candidates.1 c.requires.triangles c.requires.few_edges c.requires.few_tris);
       flags = rw hull (rw (c.as_slice-2.ensures.is, c.as_slice.ensures.is) at c.in_ok-on_hull.ensures);
       keys = rw (c.as_slice-3.ensures.is, c.as_slice-4.ensures.is) at c.in_ok-keys.ensures;
       starts = rw (c.deref.ensures.value, c.len.ensures) at c.in_ok-starts.ensures;

@@ -3,31 +3,31 @@ use Rattle.lmt_network.specs.Inside.{parts_of}
 use Rattle.lmt_network.specs.Network.{NetworkParts}
 use Rattle.lmt_network.specs.Numbers.{IsOnLeft}
 use Rattle.lmt_network.specs.Tables.{row_of}
-use Rattle.lmt_network.proofs.Rows.{left-row}
-use Rattle.lmt_network.proofs.Starts.{row-read, row-within}
+use Rattle.lmt_network.proofs.Rows.{left_row}
+use Rattle.lmt_network.proofs.Starts.{row_read, row_within}
 use Rattle.lmt_network.proofs.network.Network.left.Goals as goal
 
 pub row-requires-clause-within : goal.row-requires-clause-within
 row-requires-clause-within c =
     let e_in = subst (λ (n : NetworkParts). c.args.e < length n.edges) (sym c.self.view_is) c.requires in
     let i = c.self.inside in
-    let w = row-within i.keys.items (2 * length i.edges) i.starts.items i.rows.items (2 * c.args.e) c.self.invariant.starts c.self.invariant.rows (omega arith) in
+    let w = row_within i.keys.items (2 * length i.edges) i.starts.items i.rows.items (2 * c.args.e) c.self.invariant.starts c.self.invariant.rows (omega arith) in
     rw (c.deref-2.ensures.value, c.deref.ensures.value) w.1
 
 pub returns-clause-ascending : goal.returns-clause-ascending
 returns-clause-ascending c =
     let i = c.self.inside in
     let e_in = subst (λ (n : NetworkParts). c.args.e < length n.edges) (sym c.self.view_is) c.requires in
-    let read = row-read i.keys.items (2 * length i.edges) i.starts.items i.rows.items (2 * c.args.e) c.self.invariant.starts c.self.invariant.rows (omega arith) in
+    let read = row_read i.keys.items (2 * length i.edges) i.starts.items i.rows.items (2 * c.args.e) c.self.invariant.starts c.self.invariant.rows (omega arith) in
     let is : c.row.result.now ≡ row_of i.keys.items (2 * c.args.e) = rw (c.deref-2.ensures.value, c.deref.ensures.value) at c.row.ensures ∙ read in
-    subst (AllPairs (λ (s t : ℕ). s < t)) (sym is) (left-row (parts_of i) i.keys.items c.args.e c.self.invariant.network.ascending c.self.invariant.keys e_in).0
+    subst (AllPairs (λ (s t : ℕ). s < t)) (sym is) (left_row (parts_of i) i.keys.items c.args.e c.self.invariant.network.ascending c.self.invariant.keys e_in).0
 
 pub returns-clause-members : goal.returns-clause-members
 returns-clause-members c = λ t.
     let i = c.self.inside in
     let e_in = subst (λ (n : NetworkParts). c.args.e < length n.edges) (sym c.self.view_is) c.requires in
-    let read = row-read i.keys.items (2 * length i.edges) i.starts.items i.rows.items (2 * c.args.e) c.self.invariant.starts c.self.invariant.rows (omega arith) in
+    let read = row_read i.keys.items (2 * length i.edges) i.starts.items i.rows.items (2 * c.args.e) c.self.invariant.starts c.self.invariant.rows (omega arith) in
     let is : c.row.result.now ≡ row_of i.keys.items (2 * c.args.e) = rw (c.deref-2.ensures.value, c.deref.ensures.value) at c.row.ensures ∙ read in
     subst (λ (xs : List ℕ). Contains xs t ↔ IsOnLeft c.args.self.now c.args.e t) (sym is)
     (subst (λ (n : NetworkParts). Contains (row_of i.keys.items (2 * c.args.e)) t ↔ IsOnLeft n c.args.e t) c.self.view_is
-    ((left-row (parts_of i) i.keys.items c.args.e c.self.invariant.network.ascending c.self.invariant.keys e_in).1 t))
+    ((left_row (parts_of i) i.keys.items c.args.e c.self.invariant.network.ascending c.self.invariant.keys e_in).1 t))

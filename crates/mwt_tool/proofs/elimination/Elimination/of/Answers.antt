@@ -1,11 +1,11 @@
 use Rattle.std.proofs.Common.{◌≡◌, ℕ, List, Bool, true, replicate, length, sym, ap, ◌∙◌, subst}
-use Rattle.lmt_network.proofs.Passes.{none-lost-all}
+use Rattle.lmt_network.proofs.Passes.{none_lost_all}
 use Rattle.mwt_tool.proofs.Eliminations.{IsElimination-built}
 use Rattle.mwt_tool.proofs.elimination.Elimination.of.Goals as goal
 
 pub plain_settle-requires-clause-none_lost : goal.plain_settle-requires-clause-none_lost
 plain_settle-requires-clause-none_lost g c =
-    none-lost-all c.in_ok-net.net c.in_ok-flags.flags (c.in_ok-flags.ensures ∙ ap (λ (n : ℕ). replicate n true) c.edges-count.ensures.value)
+    none_lost_all c.in_ok-net.net c.in_ok-flags.flags (c.in_ok-flags.ensures ∙ ap (λ (n : ℕ). replicate n true) c.edges-count.ensures.value)
 
 pub returns-clause-eliminated : goal.returns-clause-eliminated
 returns-clause-eliminated g c =

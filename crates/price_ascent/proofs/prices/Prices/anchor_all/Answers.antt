@@ -6,7 +6,7 @@ use Rattle.exact_predicates.specs.declared.edge.Edge.{Edge}
 use Rattle.lmt_network.specs.Flags.{live_edges}
 use Rattle.price_ascent.specs.declared.entry.Entry.{Entry}
 use Rattle.price_ascent.specs.Entries.{live_of}
-use Rattle.price_ascent.proofs.Anchoring.{AreAnchored, anchored-back, anchored-forth, hull-passed, live-edge, live-number-of, more-anchored}
+use Rattle.price_ascent.proofs.Anchoring.{AreAnchored, anchored-back, anchored-forth, hull_passed, live_edge, live_number_of, more_anchored}
 use Rattle.price_ascent.proofs.prices.Prices.anchor_all.Goals as goal
 use Rattle.price_ascent.proofs.prices.Prices.anchor_all.Goals.{then-not-is_hull, else-not-is_hull}
 
@@ -19,7 +19,7 @@ pub number-e-requires-clause-there : goal.number-e-requires-clause-there
 number-e-requires-clause-there c =
     let n = c.args.net.now in
     let es = c.args.self.now in
-    let k = live-edge n es c.edge-item.result (is-live (live_edges n (live_of es)) c.as_slice-edge-items.result.now c.args.skeleton.now c.loop-edge.edge-index c.edge-item.result c.requires.skeleton c.as_slice-edge-items.ensures.is c.loop-edge-test.true c.edge-item.is) in
+    let k = live_edge n es c.edge-item.result (is-live (live_edges n (live_of es)) c.as_slice-edge-items.result.now c.args.skeleton.now c.loop-edge.edge-index c.edge-item.result c.requires.skeleton c.as_slice-edge-items.ensures.is c.loop-edge-test.true c.edge-item.is) in
     (k.0, k.1)
 
 pub anchor-requires-clause-live : goal.anchor-requires-clause-live
@@ -28,7 +28,7 @@ anchor-requires-clause-live c =
     let es = c.args.self.now in
     let fs = c.loop-edge.self in
     let has = is-live (live_edges n (live_of es)) c.as_slice-edge-items.result.now c.args.skeleton.now c.loop-edge.edge-index c.edge-item.result c.requires.skeleton c.as_slice-edge-items.ensures.is c.loop-edge-test.true c.edge-item.is in
-    live-number-of n fs c.edge-item.result c.number-e.result c.loop-edge.invariant.belong
+    live_number_of n fs c.edge-item.result c.number-e.result c.loop-edge.invariant.belong
     (subst (λ (zs : List Edge). Contains zs c.edge-item.result) (sym (ap (live_edges n) c.loop-edge.invariant.live)) has) c.number-e.ensures
 
 pub loop-edge-preserved : goal.loop-edge-preserved
@@ -44,12 +44,12 @@ loop-edge-preserved c =
       | then-not-is_hull w ↦
           subst (λ (gs : List Entry). AreAnchored n es gs (take (i + 1) xs)) (sym w.self-is)
           (subst (λ (ys : List Edge). AreAnchored n es w.anchor.new.self ys) more
-          (more-anchored n es fs w.anchor.new.self (take i xs) x c.number-e.result c.loop-edge.invariant c.number-e.ensures
+          (more_anchored n es fs w.anchor.new.self (take i xs) x c.number-e.result c.loop-edge.invariant c.number-e.ensures
           (λ hull. false≢true (sym w.if-not-is_hull.true ∙ c.is_hull.ensures.1 hull)) w.anchor.ensures.belong w.anchor.ensures.anchored))
       | else-not-is_hull w ↦
           subst (λ (gs : List Entry). AreAnchored n es gs (take (i + 1) xs)) (sym w.self-is)
           (subst (λ (ys : List Edge). AreAnchored n es fs ys) more
-          (hull-passed n es fs (take i xs) x c.number-e.result c.loop-edge.invariant c.number-e.ensures (c.is_hull.ensures.0 w.if-not-is_hull.false)))
+          (hull_passed n es fs (take i xs) x c.number-e.result c.loop-edge.invariant c.number-e.ensures (c.is_hull.ensures.0 w.if-not-is_hull.false)))
     ]
 
 pub returns-clause-anchored : goal.returns-clause-anchored

@@ -2,15 +2,15 @@ use Rattle.std.proofs.Common.{ap, sym, ◌∙◌, arith}
 use Rattle.std.proofs.lemmas.Bool.{false≢true}
 use Rattle.std.proofs.lemmas.Int.{ints}
 use Rattle.price_ascent.specs.declared.entry.Entry.{Entry}
-use Rattle.price_ascent.proofs.AnchorSums.{anchors-off, anchors-on}
-use Rattle.price_ascent.proofs.Lowering.{inner-off}
-use Rattle.price_ascent.proofs.Raising.{hull-on}
+use Rattle.price_ascent.proofs.AnchorSums.{anchors_off, anchors_on}
+use Rattle.price_ascent.proofs.Lowering.{inner_off}
+use Rattle.price_ascent.proofs.Raising.{hull_on}
 use Rattle.price_ascent.proofs.prices.Prices.anchors.Goals as goal
 
 pub returns-then-is_hull-clause-value : goal.returns-then-is_hull-clause-value
 returns-then-is_hull-clause-value c =
     let hull = c.is_hull.ensures.0 c.if-is_hull.true in
-    let is = anchors-on c.args.net.now c.args.self.now c.args.e (hull-on c.args.net.now c.args.e hull) in
+    let is = anchors_on c.args.net.now c.args.self.now c.args.e (hull_on c.args.net.now c.args.e hull) in
     let kept = ap (λ (p : Entry). p.value) c.at-kept.ensures in
     let from = c.from.ensures in
     let y = (c.requires.belong.each c.args.e c.requires.e_in).anchor hull in
@@ -41,8 +41,8 @@ returns-then-is_hull-clause-high c =
 pub returns-else-is_hull-clause-value : goal.returns-else-is_hull-clause-value
 returns-else-is_hull-clause-value c =
     let h = c.requires.belong.each c.args.e c.requires.e_in in
-    let off = inner-off c.args.net.now c.args.e (λ hull. false≢true (sym c.if-is_hull.false ∙ c.is_hull.ensures.1 hull)) in
-    let is = anchors-off c.args.net.now c.args.self.now c.args.e off in
+    let off = inner_off c.args.net.now c.args.e (λ hull. false≢true (sym c.if-is_hull.false ∙ c.is_hull.ensures.1 hull)) in
+    let is = anchors_off c.args.net.now c.args.self.now c.args.e off in
     let left = ap (λ (p : Entry). p.left) c.at-kept.ensures in
     let right = ap (λ (p : Entry). p.right) c.at-kept.ensures in
     let l0 = h.left.0 in

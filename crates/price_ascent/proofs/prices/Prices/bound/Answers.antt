@@ -1,13 +1,13 @@
 use Rattle.std.proofs.Common.{◌≤◌, ◌<◌, length, arith}
 use Rattle.std.proofs.lemmas.Int.{ints}
-use Rattle.price_ascent.proofs.AnchorSums.{anchors-all, anchors-next, anchors-none}
-use Rattle.price_ascent.proofs.PriceLists.{are-prices}
+use Rattle.price_ascent.proofs.AnchorSums.{anchors_all, anchors_next, anchors_none}
+use Rattle.price_ascent.proofs.PriceLists.{are_prices}
 use Rattle.price_ascent.proofs.prices.Prices.bound.Goals as goal
 
 pub loop-e-init : goal.loop-e-init
 loop-e-init c =
     record {
-      total = anchors-all c.args.net.now c.args.self.now;
+      total = anchors_all c.args.net.now c.args.self.now;
       low = omega (arith, ints);
       high = omega (arith, ints);
     }
@@ -19,7 +19,7 @@ loop-e-preserved c =
     let e = c.loop-e.e in
     let e_in : e < length n.edges = let l = c.loop-e-test.true in let is = c.edges-e-end.ensures.value in omega (arith, l, is) in
     let few = c.requires.belong.network.few_edges in
-    let next = anchors-next n es e c.requires.belong e_in in
+    let next = anchors_next n es e c.requires.belong e_in in
     let total = c.loop-e.invariant.total in
     let low = c.loop-e.invariant.low in
     let high = c.loop-e.invariant.high in
@@ -38,10 +38,10 @@ returns-clause-value c =
     let n = c.args.net.now in
     let es = c.args.self.now in
     let past : length n.edges ≤ c.loop-e.e = let l = c.loop-e-test.false in let is = c.edges-e-end.ensures.value in omega (arith, l, is) in
-    let none = anchors-none n es c.loop-e.e c.requires.belong past in
+    let none = anchors_none n es c.loop-e.e c.requires.belong past in
     let total = c.loop-e.invariant.total in
     let sum_is = c.loop-e.sum-is in
     omega (arith, ints, none, total, sum_is)
 
 pub returns-clause-are_prices : goal.returns-clause-are_prices
-returns-clause-are_prices c = are-prices c.args.net.now c.args.self.now c.requires.belong
+returns-clause-are_prices c = are_prices c.args.net.now c.args.self.now c.requires.belong

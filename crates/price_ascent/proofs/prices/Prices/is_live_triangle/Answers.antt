@@ -1,7 +1,7 @@
 use Rattle.std.proofs.Common.{◌≡◌, length, sym, ◌∙◌, ap, inr, arith}
 use Rattle.std.proofs.lemmas.Bool.{false≢true}
 use Rattle.price_ascent.specs.declared.entry.Entry.{Entry}
-use Rattle.price_ascent.proofs.LiveSides.{three-sides-live}
+use Rattle.price_ascent.proofs.LiveSides.{three_sides_live}
 use Rattle.price_ascent.proofs.prices.Prices.is_live_triangle.Goals as goal
 use Rattle.price_ascent.proofs.prices.Prices.is_live_triangle.Goals.{then-at, else-at}
 
@@ -11,7 +11,7 @@ returns-then-at-2 c =
     let three : length c.sides.result ≡ 3 = omega arith in
     elim c.if-at.branch [
       | then-at w ↦ (
-        λ last. three-sides-live c.args.net.now c.args.self.now c.args.t c.sides.result three c.sides.ensures.only
+        λ last. three_sides_live c.args.net.now c.args.self.now c.args.t c.sides.result three c.sides.ensures.only
             (sym (ap live c.at.ensures) ∙ w.if-at.true) (sym (ap live w.at-then-at.ensures) ∙ (sym w.value-is ∙ c.if-at-2.true)) (sym (ap live c.at-then-at-2.ensures) ∙ last),
         λ every. ap live c.at-then-at-2.ensures ∙ every _ (inr (inr c.sides.ensures.ca)),
       )

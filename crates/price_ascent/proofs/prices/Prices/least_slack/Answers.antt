@@ -5,7 +5,7 @@ use Rattle.std.proofs.lemmas.List.Elements.{Contains-get_or}
 use Rattle.price_ascent.specs.Ascent.{IsLeastSlack}
 use Rattle.price_ascent.specs.Entries.{prices_of}
 use Rattle.price_ascent.specs.Steps.{IsLeastUpto, slack_at}
-use Rattle.price_ascent.proofs.Leasts.{least-all, least-kept, least-more}
+use Rattle.price_ascent.proofs.Leasts.{least_all, least_kept, least_more}
 use Rattle.price_ascent.proofs.prices.Prices.least_slack.Goals as goal
 use Rattle.price_ascent.proofs.prices.Prices.least_slack.Goals.{then-is_live_triangle, else-is_live_triangle}
 
@@ -25,12 +25,12 @@ loop-t-preserved c =
           let is : to_z w64 (of_z w64 w.slack_of.result) ≡ slack_at n es (slice_index c.args.row.now c.loop-t.t-index) = let h = w.slack_of.ensures in omega (arith, ints, h) in
           let same : to_z w64 (of_z w64 w.lesser.result) ≡ w.lesser.result = omega (arith, ints) in
           subst upto (ap (λ (z : ℤ). Some z) (sym same) ∙ sym w.least-is)
-          (least-more n es c.args.row.now c.loop-t.t-index c.loop-t.least w.lesser.result c.loop-t.invariant (c.is_live_triangle.ensures.0 w.if-is_live_triangle.true)
+          (least_more n es c.args.row.now c.loop-t.t-index c.loop-t.least w.lesser.result c.loop-t.invariant (c.is_live_triangle.ensures.0 w.if-is_live_triangle.true)
           (subst (λ (z : ℤ). w.lesser.result ≤ℤ z) is w.lesser.ensures.up_to)
           w.lesser.ensures.up_to_least
           (subst (λ (z : ℤ). (w.lesser.result ≡ z) ⊎ (c.loop-t.least ≡ Some w.lesser.result)) is w.lesser.ensures.one))
       | else-is_live_triangle w ↦ subst upto (sym w.least-is)
-          (least-kept n es c.args.row.now c.loop-t.t-index c.loop-t.least c.loop-t.invariant (λ live. false≢true (sym w.if-is_live_triangle.false ∙ c.is_live_triangle.ensures.1 live)))
+          (least_kept n es c.args.row.now c.loop-t.t-index c.loop-t.least c.loop-t.invariant (λ live. false≢true (sym w.if-is_live_triangle.false ∙ c.is_live_triangle.ensures.1 live)))
     ]
 
 pub returns : goal.returns
@@ -39,4 +39,4 @@ returns c =
     let es = c.args.self.now in
     let is : to_z w64 (of_z w64 c.unwrap_or.result) ≡ unwrap_or c.loop-t.least (pos 0) = let h = c.unwrap_or.ensures in omega (arith, ints, h) in
     subst (IsLeastSlack n.points n.hull (prices_of n es) c.args.u c.args.v) (sym is)
-    (least-all n es c.args.row.now c.args.u c.args.v c.loop-t.t-index c.loop-t.least c.requires.belong c.requires.row c.loop-t-test.false c.loop-t.auto.t-index-end c.loop-t.invariant)
+    (least_all n es c.args.row.now c.args.u c.args.v c.loop-t.t-index c.loop-t.least c.requires.belong c.requires.row c.loop-t-test.false c.loop-t.auto.t-index-end c.loop-t.invariant)

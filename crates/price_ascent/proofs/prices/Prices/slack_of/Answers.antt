@@ -6,7 +6,7 @@ use Rattle.lmt_network.specs.Network.{tri_at}
 use Rattle.price_ascent.specs.declared.entry.Entry.{Entry}
 use Rattle.price_ascent.specs.Entries.{entry}
 use Rattle.price_ascent.specs.Steps.{AreShares}
-use Rattle.price_ascent.proofs.Shares.{shares-fit}
+use Rattle.price_ascent.proofs.Shares.{shares_fit}
 use Rattle.price_ascent.proofs.SlackSums.{slack-kept}
 use Rattle.price_ascent.proofs.prices.Prices.slack_of.Goals as goal
 use Rattle.price_ascent.proofs.prices.Prices.slack_of.Goals.{then-tri, else-tri}
@@ -23,8 +23,8 @@ pub overflow_add-result : goal.overflow_add-result
 overflow_add-result c =
     let n = c.args.net.now in
     let es = c.args.self.now in
-    let first = subst AreShares (sym c.at.ensures) (shares-fit n es _ c.requires.belong c.sides.ensures.ab.0 (c.requires.live _ (inl c.sides.ensures.ab))) in
-    let second = subst AreShares (sym c.at-bc.ensures) (shares-fit n es _ c.requires.belong c.sides.ensures.bc.0 (c.requires.live _ (inr (inl c.sides.ensures.bc)))) in
+    let first = subst AreShares (sym c.at.ensures) (shares_fit n es _ c.requires.belong c.sides.ensures.ab.0 (c.requires.live _ (inl c.sides.ensures.ab))) in
+    let second = subst AreShares (sym c.at-bc.ensures) (shares_fit n es _ c.requires.belong c.sides.ensures.bc.0 (c.requires.live _ (inr (inl c.sides.ensures.bc)))) in
     elim c.if-tri.branch [
       | then-tri w ↦ omega (arith, ints, first.up_low, first.up_high, second.up_low, second.up_high, w.second-is, c.if-tri.second-is)
       | else-tri w ↦ omega (arith, ints, first.up_low, first.up_high, second.down_low, second.down_high, w.second-is, c.if-tri.second-is)
@@ -34,9 +34,9 @@ pub overflow_add-result-2 : goal.overflow_add-result-2
 overflow_add-result-2 c =
     let n = c.args.net.now in
     let es = c.args.self.now in
-    let first = subst AreShares (sym c.at.ensures) (shares-fit n es _ c.requires.belong c.sides.ensures.ab.0 (c.requires.live _ (inl c.sides.ensures.ab))) in
-    let second = subst AreShares (sym c.at-bc.ensures) (shares-fit n es _ c.requires.belong c.sides.ensures.bc.0 (c.requires.live _ (inr (inl c.sides.ensures.bc)))) in
-    let third = subst AreShares (sym c.at-2.ensures) (shares-fit n es _ c.requires.belong c.sides.ensures.ca.0 (c.requires.live _ (inr (inr c.sides.ensures.ca)))) in
+    let first = subst AreShares (sym c.at.ensures) (shares_fit n es _ c.requires.belong c.sides.ensures.ab.0 (c.requires.live _ (inl c.sides.ensures.ab))) in
+    let second = subst AreShares (sym c.at-bc.ensures) (shares_fit n es _ c.requires.belong c.sides.ensures.bc.0 (c.requires.live _ (inr (inl c.sides.ensures.bc)))) in
+    let third = subst AreShares (sym c.at-2.ensures) (shares_fit n es _ c.requires.belong c.sides.ensures.ca.0 (c.requires.live _ (inr (inr c.sides.ensures.ca)))) in
     elim c.if-tri.branch [
       | then-tri w ↦ omega (arith, ints, first.up_low, first.up_high, second.up_low, second.up_high, third.down_low, third.down_high, w.second-is, c.if-tri.second-is)
       | else-tri w ↦ omega (arith, ints, first.up_low, first.up_high, second.down_low, second.down_high, third.down_low, third.down_high, w.second-is, c.if-tri.second-is)
@@ -49,9 +49,9 @@ returns c =
     let x = tri_at n c.args.t in
     let xs = c.sides.result in
     let j = entry es (get_or xs 1 0) in
-    let fit = subst AreShares (sym c.at.ensures) (shares-fit n es _ c.requires.belong c.sides.ensures.ab.0 (c.requires.live _ (inl c.sides.ensures.ab))) in
-    let fit_j = subst AreShares (sym c.at-bc.ensures) (shares-fit n es _ c.requires.belong c.sides.ensures.bc.0 (c.requires.live _ (inr (inl c.sides.ensures.bc)))) in
-    let fit_k = subst AreShares (sym c.at-2.ensures) (shares-fit n es _ c.requires.belong c.sides.ensures.ca.0 (c.requires.live _ (inr (inr c.sides.ensures.ca)))) in
+    let fit = subst AreShares (sym c.at.ensures) (shares_fit n es _ c.requires.belong c.sides.ensures.ab.0 (c.requires.live _ (inl c.sides.ensures.ab))) in
+    let fit_j = subst AreShares (sym c.at-bc.ensures) (shares_fit n es _ c.requires.belong c.sides.ensures.bc.0 (c.requires.live _ (inr (inl c.sides.ensures.bc)))) in
+    let fit_k = subst AreShares (sym c.at-2.ensures) (shares_fit n es _ c.requires.belong c.sides.ensures.ca.0 (c.requires.live _ (inr (inr c.sides.ensures.ca)))) in
     let first = ap (λ (p : Entry). p.up) c.at.ensures in
     let up = ap (λ (p : Entry). p.up) c.at-bc.ensures in
     let down = ap (λ (p : Entry). p.down) c.at-bc.ensures in

@@ -4,12 +4,12 @@ use Rattle.lmt_network.specs.Flags.{live_edges, live_numbers}
 use Rattle.lmt_network.specs.Network.{IsNetwork, NetworkParts, edge_at}
 use Rattle.lmt_network.specs.Numbers.{AreLive}
 use Rattle.lmt_network.specs.PriceTables.{PriceTable}
-use Rattle.lmt_network.proofs.Picked.{flag-from_live}
+use Rattle.lmt_network.proofs.Picked.{flag_from_live}
 use Rattle.price_ascent.specs.declared.entry.Entry.{Entry}
 use Rattle.price_ascent.specs.Ascent.{IsStart}
 use Rattle.price_ascent.specs.Entries.{entry}
 use Rattle.price_ascent.specs.Steps.{start_entry}
-use Rattle.price_ascent.proofs.Starting.{AreFirst, first-belong, first-live, first-start, none-yet}
+use Rattle.price_ascent.proofs.Starting.{AreFirst, first_belong, first_live, first_start, none_yet}
 use Rattle.price_ascent.proofs.prices.Prices.start.Goals as goal
 
 first : (n : NetworkParts) (flags : List Bool) (es xs : List Entry) → es ≡ xs → IsNetwork n → length xs ≡ length n.edges → length flags ≡ length n.edges
@@ -18,38 +18,38 @@ first : (n : NetworkParts) (flags : List Bool) (es xs : List Entry) → es ≡ x
     → AreLive n (live_numbers flags) → AreFirst n flags es
 first n flags es xs is net one_each flag_each each light live =
     subst (AreFirst n flags) (sym is)
-    (record { network = net; one_each = one_each; flag_each = flag_each; each = each; light = light; hull_live = λ e e_in hull. flag-from_live flags e (live.hull_edges e e_in hull) })
+    (record { network = net; one_each = one_each; flag_each = flag_each; each = each; light = light; hull_live = λ e e_in hull. flag_from_live flags e (live.hull_edges e e_in hull) })
 
 pub anchor_all-requires-clause-belong : goal.anchor_all-requires-clause-belong
 anchor_all-requires-clause-belong c =
     let d = c.in_ok-first_entries.ensures in
-    first-belong c.args.net.now c.args.flags.now c.of-prices.result
+    first_belong c.args.net.now c.args.flags.now c.of-prices.result
     (first c.args.net.now c.args.flags.now c.of-prices.result _ c.of-prices.ensures c.first_entries.ensures.network d.one_each c.requires.one_each d.each d.light c.requires.live)
 
 pub anchor_all-requires-clause-skeleton : goal.anchor_all-requires-clause-skeleton
 anchor_all-requires-clause-skeleton c =
     let d = c.in_ok-first_entries.ensures in
     subst (λ (bs : List Bool). All (Contains (live_edges c.args.net.now bs)) c.args.skeleton.now)
-    (sym (first-live c.args.net.now c.args.flags.now c.of-prices.result
+    (sym (first_live c.args.net.now c.args.flags.now c.of-prices.result
     (first c.args.net.now c.args.flags.now c.of-prices.result _ c.of-prices.ensures c.first_entries.ensures.network d.one_each c.requires.one_each d.each d.light c.requires.live)))
     c.requires.skeleton
 
 pub anchor_all-requires-clause-none_yet : goal.anchor_all-requires-clause-none_yet
 anchor_all-requires-clause-none_yet c = λ e.
     let d = c.in_ok-first_entries.ensures in
-    none-yet c.args.net.now c.args.flags.now c.of-prices.result e
+    none_yet c.args.net.now c.args.flags.now c.of-prices.result e
     (first c.args.net.now c.args.flags.now c.of-prices.result _ c.of-prices.ensures c.first_entries.ensures.network d.one_each c.requires.one_each d.each d.light c.requires.live)
 
 pub returns-clause-start : goal.returns-clause-start
 returns-clause-start c =
     let d = c.in_ok-first_entries.ensures in
     subst (λ (t : PriceTable). IsStart c.args.net.now c.args.flags.now t) (sym c.anchor_all.ensures.same)
-    (first-start c.args.net.now c.args.flags.now c.of-prices.result
+    (first_start c.args.net.now c.args.flags.now c.of-prices.result
     (first c.args.net.now c.args.flags.now c.of-prices.result _ c.of-prices.ensures c.first_entries.ensures.network d.one_each c.requires.one_each d.each d.light c.requires.live))
 
 pub returns-clause-live : goal.returns-clause-live
 returns-clause-live c =
     let d = c.in_ok-first_entries.ensures in
     c.anchor_all.ensures.live
-    ∙ first-live c.args.net.now c.args.flags.now c.of-prices.result
+    ∙ first_live c.args.net.now c.args.flags.now c.of-prices.result
     (first c.args.net.now c.args.flags.now c.of-prices.result _ c.of-prices.ensures c.first_entries.ensures.network d.one_each c.requires.one_each d.each d.light c.requires.live)

@@ -2,7 +2,7 @@ use Rattle.std.proofs.Common.{◌<◌, ◌+◌, Bool, false, List, length, get_o
 use Rattle.std.proofs.lemmas.Bool.{false≢true}
 use Rattle.std.proofs.lemmas.Int.{ints}
 use Rattle.price_ascent.specs.declared.entry.Entry.{Entry}
-use Rattle.price_ascent.proofs.Sweeps.{AreSwept, all-swept, more-swept, skipped, value-is}
+use Rattle.price_ascent.proofs.Sweeps.{AreSwept, all_swept, more_swept, skipped, value_is}
 use Rattle.price_ascent.proofs.prices.Prices.sweep.Goals as goal
 use Rattle.price_ascent.proofs.prices.Prices.sweep.Goals.{then-live+then-not-is_hull, else-live, else-live-via-then-live+else-not-is_hull, else-live-via-else-live}
 
@@ -17,7 +17,7 @@ loop-e-preserved c =
     elim c.if-live.branch [
       | then-live+then-not-is_hull w ↦
           subst (λ (xs : List Entry). AreSwept n es xs (e + 1)) (sym w.self-is)
-          (more-swept n es fs w.lower.new.self e c.loop-e.invariant w.lower.ensures.belong e_in
+          (more_swept n es fs w.lower.new.self e c.loop-e.invariant w.lower.ensures.belong e_in
           (sym live_is ∙ w.if-live.true, λ hull. false≢true (sym w.if-not-is_hull.true ∙ w.is_hull.ensures.1 hull)) w.lower.ensures.lowered)
       | else-live w ↦
           subst (λ (xs : List Entry). AreSwept n es xs (e + 1)) (sym w.self-is)
@@ -29,15 +29,15 @@ loop-e-preserved c =
 
 pub returns-clause-sweep : goal.returns-clause-sweep
 returns-clause-sweep c =
-    all-swept c.args.net.now c.args.self.now c.loop-e.self c.loop-e.e c.requires.belong c.loop-e.invariant
+    all_swept c.args.net.now c.args.self.now c.loop-e.self c.loop-e.e c.requires.belong c.loop-e.invariant
     (let l = c.loop-e-test.false in let is = c.edges-e-end.ensures.value in omega (arith, l, is))
 
 pub returns-clause-falls : goal.returns-clause-falls
 returns-clause-falls c = λ e.
     let f = c.loop-e.invariant.falls e in
-    let old = value-is c.args.self.now e in
-    let new = value-is c.loop-e.self e in
+    let old = value_is c.args.self.now e in
+    let new = value_is c.loop-e.self e in
     omega (arith, ints, f, old, new)
 
 pub returns-clause-anchors : goal.returns-clause-anchors
-returns-clause-anchors c = λ e hull. value-is c.loop-e.self e ∙ (c.loop-e.invariant.others e (inr hull) ∙ sym (value-is c.args.self.now e))
+returns-clause-anchors c = λ e hull. value_is c.loop-e.self e ∙ (c.loop-e.invariant.others e (inr hull) ∙ sym (value_is c.args.self.now e))

@@ -3,7 +3,7 @@ use Rattle.std.proofs.lemmas.Int.{ints}
 use Rattle.price_ascent.specs.declared.entry.Entry.{Entry}
 use Rattle.price_ascent.specs.Entries.{no_entry}
 use Rattle.price_ascent.proofs.Kept.{get_or-mapped}
-use Rattle.price_ascent.proofs.Sweeps.{value-is}
+use Rattle.price_ascent.proofs.Sweeps.{value_is}
 use Rattle.price_ascent.proofs.Tightness.{AreTightened, tight, tightened}
 use Rattle.price_ascent.proofs.prices.Prices.tighten.Goals as goal
 
@@ -19,14 +19,14 @@ returns-clause-tight c = tight c.args.net.now c.args.self.now c.tighten_hull.new
 
 pub returns-clause-prices : goal.returns-clause-prices
 returns-clause-prices c = λ e inner.
-    value-is c.tighten_inner.new.self e ∙ (c.tighten_inner.ensures.prices e inner ∙ (c.tighten_hull.ensures.prices e inner ∙ sym (value-is c.args.self.now e)))
+    value_is c.tighten_inner.new.self e ∙ (c.tighten_inner.ensures.prices e inner ∙ (c.tighten_hull.ensures.prices e inner ∙ sym (value_is c.args.self.now e)))
 
 pub returns-clause-anchors : goal.returns-clause-anchors
 returns-clause-anchors c = λ e hull.
     let a = c.tighten_hull.ensures.anchors e hull in
     let b = c.tighten_inner.ensures.anchors e hull in
-    let old = value-is c.args.self.now e in
-    let new = value-is c.tighten_inner.new.self e in
+    let old = value_is c.args.self.now e in
+    let new = value_is c.tighten_inner.new.self e in
     omega (arith, ints, a, b, old, new)
 
 pub returns-clause-lefts : goal.returns-clause-lefts

@@ -2,8 +2,8 @@ use Rattle.std.proofs.Common.{◌≡◌, ◌≤◌, ◌+◌, ℕ, List, ◌∷�
 use Rattle.exact_predicates.specs.Hull.{IsHullPair, ring_pairs}
 use Rattle.exact_predicates.proofs.Rings.{IsNext, pair_of_place}
 use Rattle.price_ascent.specs.Raised.{AreRaised}
-use Rattle.price_ascent.proofs.Raised.{hull-raised, more-raised}
-use Rattle.price_ascent.proofs.Sides.{next-pair, no-pair}
+use Rattle.price_ascent.proofs.Raised.{hull-raised, more_raised}
+use Rattle.price_ascent.proofs.Sides.{next_pair, no_pair}
 use Rattle.price_ascent.proofs.prices.Prices.tighten_hull.Goals as goal
 use Rattle.price_ascent.proofs.prices.Prices.tighten_hull.Goals.{then-i-hull, else-i-hull}
 
@@ -30,14 +30,14 @@ loop-i-preserved c =
       | else-i-hull w ↦ let l = w.if-i-hull.false in let m = c.loop-i-test.true in inr (omega arith, sym w.next-is)
     ] in
     let pair = subst (λ (xs : List ℕ). IsHullPair xs u v) c.hull-hull.ensures.value (pair_of_place h u v i c.loop-i-test.true refl next) in
-    let rest = subst (λ (xs : List ℕ). drop i (ring_pairs xs) ≡ (u, v) ∷ drop (i + 1) (ring_pairs xs)) c.hull-hull.ensures.value (next-pair h i v c.loop-i-test.true next) in
+    let rest = subst (λ (xs : List ℕ). drop i (ring_pairs xs) ≡ (u, v) ∷ drop (i + 1) (ring_pairs xs)) c.hull-hull.ensures.value (next_pair h i v c.loop-i-test.true next) in
     let sides = ring_pairs n.hull in
     let r = c.raise_hull.ensures.raised in
-    more-raised n c.args.self.now c.loop-i.self c.raise_hull.new.self sides (drop (i + 1) sides) u v
+    more_raised n c.args.self.now c.loop-i.self c.raise_hull.new.self sides (drop (i + 1) sides) u v
     (subst (λ (xs : List (ℕ × ℕ)). AreRaised n c.args.self.now c.loop-i.self sides xs) rest c.loop-i.invariant)
     (hull-raised n c.loop-i.self c.raise_hull.new.self r.0 u v c.loop-i.invariant.belong c.raise_hull.ensures.belong r.1 pair r.2)
 
 pub returns : goal.returns
 returns c =
     let past : length c.args.net.now.hull ≤ c.loop-i.i = let h = c.hull-hull.ensures.value in let l = c.loop-i-test.false in omega (arith, l, ap (λ (xs : List ℕ). length xs) h) in
-    subst (λ (xs : List (ℕ × ℕ)). AreRaised c.args.net.now c.args.self.now c.loop-i.self (ring_pairs c.args.net.now.hull) xs) (no-pair c.args.net.now.hull c.loop-i.i past) c.loop-i.invariant
+    subst (λ (xs : List (ℕ × ℕ)). AreRaised c.args.net.now c.args.self.now c.loop-i.self (ring_pairs c.args.net.now.hull) xs) (no_pair c.args.net.now.hull c.loop-i.i past) c.loop-i.invariant

@@ -4,7 +4,7 @@ use Rattle.price_ascent.specs.declared.entry.Entry.{Entry}
 use Rattle.price_ascent.specs.Ascent.{both_sides}
 use Rattle.price_ascent.specs.Entries.{anchored_edges, entry}
 use Rattle.price_ascent.specs.Raised.{AreRaised, sides_from}
-use Rattle.price_ascent.proofs.Raised.{left-raised, more-raised, right-raised}
+use Rattle.price_ascent.proofs.Raised.{left-raised, more_raised, right-raised}
 use Rattle.price_ascent.proofs.Sides.{anchored-at, sides-more, sides-none, sides-skip}
 use Rattle.price_ascent.proofs.prices.Prices.tighten_inner.Goals as goal
 use Rattle.price_ascent.proofs.prices.Prices.tighten_inner.Goals.{then-at, else-at}
@@ -27,11 +27,11 @@ loop-e-preserved c =
           let hs = w.raise_right.new.self in
           let flag : (entry fs e).anchored ≡ true = sym is ∙ w.if-at.true in
           let flag_es : (entry es e).anchored ≡ true = sym (anchored-at fs es e c.loop-e.invariant.anchored) ∙ flag in
-          let one = more-raised n es fs gs sides ((b, a) ∷ sides_from n es (e + 1)) a b
+          let one = more_raised n es fs gs sides ((b, a) ∷ sides_from n es (e + 1)) a b
           (subst (λ (xs : List (ℕ × ℕ)). AreRaised n es fs sides xs) (sides-more n es e one_each e_in flag_es) c.loop-e.invariant)
           (left-raised n fs gs e c.loop-e.invariant.belong w.raise_left.ensures.belong e_in flag w.raise_left.ensures.raised) in
           let flag_gs : (entry gs e).anchored ≡ true = anchored-at gs es e one.anchored ∙ flag_es in
-          let two = more-raised n es gs hs sides (sides_from n es (e + 1)) b a one
+          let two = more_raised n es gs hs sides (sides_from n es (e + 1)) b a one
           (right-raised n gs hs e one.belong w.raise_right.ensures.belong e_in flag_gs w.raise_right.ensures.raised) in
           subst (λ (xs : List Entry). AreRaised n es xs sides (sides_from n es (e + 1))) (sym w.self-is) two
       | else-at w ↦
