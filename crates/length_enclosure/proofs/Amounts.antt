@@ -3,6 +3,7 @@ use Rattle.std.proofs.Common.{◌≡◌, ℕ, ◌+◌, ◌-◌, ◌*◌, ◌/◌
 use Rattle.std.specs.List.{list_all}
 use Rattle.std.proofs.lemmas.Bool.{and_parts, and_from, eqb-true}
 use Rattle.std.proofs.lemmas.List.{take_at, drop_at, length-append, length-take, length-drop, take-append-drop, get_or-take}
+use Rattle.mwt_base.specs.Limits.{most_amount}
 use Rattle.length_enclosure.specs.Number.{is_digit, is_number, number, is_negative}
 use Rattle.length_enclosure.specs.Amount.{amount, amount_size, six_digits, whole_part, last_seven, is_amount_size, size_in, is_amount, amount_in}
 use Rattle.length_enclosure.proofs.Digits.{digit_low, digit_high, digit_between, number_parts, number_spelled, number_again, is_number_again, first_passes, digit_first}
@@ -151,7 +152,7 @@ no_sign t h =
     digit_first t (rw first at digit)
 
 -- amounts with no sign are spelled in one way
-spelling : IsSpelling is_amount_size size_in amount_size (10 ^ 25)
+spelling : IsSpelling is_amount_size size_in amount_size most_amount
 spelling = record {
   spelled = λ t h low. amount_size_spelled t h (omega arith);
   again = λ n low. (amount_size_again n (omega arith)).0;
@@ -164,9 +165,9 @@ amount_is (pos n) = refl
 amount_is (negsuc n) = refl
 
 -- an amount is the one spelling of its number
-pub amount_spelled : (t : List ℕ) → is_amount t ≡ true → unsigned_abs (amount_in t) ≤ 10 ^ 25 → amount (amount_in t) ≡ t
+pub amount_spelled : (t : List ℕ) → is_amount t ≡ true → unsigned_abs (amount_in t) ≤ most_amount → amount (amount_in t) ≡ t
 amount_spelled t h low = amount_is (amount_in t) ∙ signed_spelled spelling t h low
 
 -- what is spelled is an amount of the same number
-pub amount_again : (n : ℤ) → unsigned_abs n ≤ 10 ^ 25 → (is_amount (amount n) ≡ true) × (amount_in (amount n) ≡ n)
+pub amount_again : (n : ℤ) → unsigned_abs n ≤ most_amount → (is_amount (amount n) ≡ true) × (amount_in (amount n) ≡ n)
 amount_again n low = rw (amount_is n) (signed_again spelling n low)

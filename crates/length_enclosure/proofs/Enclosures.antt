@@ -10,9 +10,6 @@ use Rattle.exact_predicates.specs.Length.{edge_d2, length_up, length_down, IsAtL
 use Rattle.length_enclosure.specs.Enclosure.{weight, lo, hi}
 use Rattle.exact_predicates.proofs.Roots.{pow-two, below-square, le-square, root_down_is, root_up_is, root_down_next, is_square_decides}
 
-mul-square : (m w : ℕ) → (m * w) * (m * w) ≡ (m * m) * (w * w)
-mul-square m w = omega arith
-
 pub scale-le : (k a b : ℕ) → a ≤ b → k * a ≤ k * b
 scale-le k a b h = mul-le k a k b (omega arith) h
 

@@ -1,6 +1,7 @@
 -- What is read of a text is a number exactly where it is an amount in range.
 use Rattle.std.proofs.Common.{◌≡◌, ◌↔◌, ℕ, ℤ, ◌^◌, ◌<◌, ◌≤◌, Bool, true, false, not, leb, cond, List, unsigned_abs, sym, ap, ◌∙◌, refl}
 use Rattle.std.proofs.lemmas.Bool.{leb-true, leb-false, le-leb, lt-leb}
+use Rattle.mwt_base.specs.Limits.{most_amount}
 use Rattle.length_enclosure.specs.declared.units.Units.{Units}
 use Rattle.length_enclosure.specs.declared.units.Units.TheVariants.{Value, Outside, NoAmount}
 use Rattle.length_enclosure.specs.Amount.{amount, is_amount, amount_in}
@@ -26,7 +27,7 @@ choice_outside true true n = (λ e. absurd cc, λ e. absurd (let l = e.1 in cc))
 choice_outside true false n = (λ e. (refl, refl), λ e. refl)
 choice_outside false low n = (λ e. absurd cc, λ e. absurd (let l = e.0 in cc))
 
-pub units_value : (t : List ℕ) (n : ℤ) → (units_in t ≡ Value n) ↔ ((unsigned_abs n ≤ 10 ^ 25) × (t ≡ amount n))
+pub units_value : (t : List ℕ) (n : ℤ) → (units_in t ≡ Value n) ↔ ((unsigned_abs n ≤ most_amount) × (t ≡ amount n))
 unfolding units_in
 units_value t n = (
   λ e.
@@ -42,10 +43,10 @@ pub units_none : (t : List ℕ) → (units_in t ≡ NoAmount) ↔ (is_amount t �
 unfolding units_in
 units_none t = choice_none (is_amount t) _ (amount_in t)
 
-pub units_outside : (t : List ℕ) → (units_in t ≡ Outside) ↔ ((is_amount t ≡ true) × (10 ^ 25 < unsigned_abs (amount_in t)))
+pub units_outside : (t : List ℕ) → (units_in t ≡ Outside) ↔ ((is_amount t ≡ true) × (most_amount < unsigned_abs (amount_in t)))
 unfolding units_in
 units_outside t =
-    let both = choice_outside (is_amount t) (leb (unsigned_abs (amount_in t)) (10 ^ 25)) (amount_in t) in (
+    let both = choice_outside (is_amount t) (leb (unsigned_abs (amount_in t)) most_amount) (amount_in t) in (
       λ e. let p = both.0 e in (p.0, leb-false _ _ p.1),
       λ h. both.1 (h.0, lt-leb _ _ h.1),
     )

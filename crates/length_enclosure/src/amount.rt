@@ -1,5 +1,6 @@
 // Amounts of millionths as text.
 ghost use Rattle.std.specs.Prelude.{◌≡◌, ◌+◌, ◌*◌, ◌%◌, ◌^◌, ◌<◌, ◌≤◌, ◌++◌, [], length, codes, pos, ◌<ℤ◌, ◌≤ℤ◌, unsigned_abs, vec_len, vec_capacity, OnOk, OnErr};
+ghost use Rattle.mwt_base.specs.Limits.{most_amount};
 ghost use Rattle.length_enclosure.specs.Amount.{amount, six_digits};
 
 use itoa::Buffer;
@@ -12,7 +13,7 @@ const UNIT: u128 = 1_000_000;
 /// leading zero, a dot and six digits. `NoMemory` comes only where `out` has no room for the text and
 /// cannot grow, and leaves `out` as it was.
 pub fn write_units(out: &mut Vec<u8>, n: i128) -> Result<(), NoMemory>
-    requires { unsigned_abs n ≤ 10 ^ 25 }
+    requires { unsigned_abs n ≤ most_amount }
     ensures written { OnOk result (out.new.items ≡ out.old.items ++ amount n) }
     ensures kept { OnErr result (out.new.items ≡ out.old.items) }
     ensures full { OnErr result (vec_capacity out.old < vec_len out.old + length (amount n)) }

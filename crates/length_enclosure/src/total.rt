@@ -1,5 +1,6 @@
 // The enclosure of a triangulation's length.
 ghost use Rattle.std.specs.Prelude.{◌≡◌, ℕ, ◌+◌, ◌*◌, ◌^◌, ◌<◌, ◌≤◌, pos, [], ◌∷◌, length, All, filter};
+ghost use Rattle.mwt_base.specs.Limits.{most_tiles};
 ghost use Rattle.exact_predicates.specs.Hull.{IsHull, ring_pairs};
 ghost use Rattle.exact_predicates.specs.Triangulation.{sides, is_inner, edges};
 ghost use Rattle.exact_predicates.specs.Length.{IsAtLeast, IsAtMost};
@@ -14,7 +15,7 @@ use exact_predicates::{Hull, Points, Tri, Tris};
 /// the greater, as often as it is listed.
 pub fn enclosure(points: &Points, hull: &Hull, tris: &Tris) -> Enclosure
     requires hull { IsHull points.now.points hull.now }
-    requires few { length tris.now ≤ 20000 }
+    requires few { length tris.now ≤ most_tiles }
     requires within { All (λ t. (t.b < length points.now.points) × (t.c < length points.now.points)) tris.now }
     ensures lo { result.lo ≡ lo points.now.points (edges hull.now tris.now) }
     ensures hi { result.hi ≡ hi points.now.points (edges hull.now tris.now) }
