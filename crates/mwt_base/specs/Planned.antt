@@ -41,10 +41,7 @@ pub record PlannedSink : Type 0 where
   pub room : ℕ
   pub plan : PlannedCalls
 
--- how many bytes a call gives to a buffer, or takes of a piece, where it does not fail: as many as there are and as fit
-abbrev pub given_count : PlannedSource → List ℕ → ℕ
-given_count source buf = min (min (length source.left) source.chunk) (length buf)
-
+-- how many bytes a call takes of a piece, where it does not fail: as many as there are, at most a chunk, and as fit
 abbrev pub taken_count : PlannedSink → List ℕ → ℕ
 taken_count sink piece = min (min (length piece) sink.chunk) (sink.room - length sink.written)
 

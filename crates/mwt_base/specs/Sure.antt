@@ -1,6 +1,19 @@
--- What a sink in memory keeps of what it is given.
-use Rattle.std.specs.Prelude.{◌≡◌, ◌↔◌, ℕ, ◌+◌, ◌-◌, ◌^◌, ◌≤◌, List, [], ◌++◌, length, take, min, Bool, true, IsTrue, None, Some, if◌then◌else◌}
+-- What a source in memory gives, and what a sink in memory keeps of what it is given.
+use Rattle.std.specs.Prelude.{◌≡◌, ◌↔◌, ℕ, ◌+◌, ◌-◌, ◌^◌, ◌≤◌, List, [], ◌++◌, length, take, drop, min, Bool, true, IsTrue, None, Some, if◌then◌else◌}
 use Rattle.std.specs.declared.option.Option.{Option}
+
+-- a source: what it has left, and at most how many bytes it gives a call
+pub record Supply : Type 0 where
+  pub left : List ℕ
+  pub chunk : ℕ
+
+-- how many bytes a call gives to a buffer: as many as there are, at most a chunk, and as fit
+abbrev pub given_count : List ℕ → ℕ → List ℕ → ℕ
+given_count left chunk buf = min (min (length left) chunk) (length buf)
+
+-- a source that has given k bytes
+abbrev pub after_sure_read : Supply → ℕ → Supply
+after_sure_read source k = record source { left = drop k source.left }
 
 -- the first bytes of all that came, up to the room; whether that was all; how many came
 pub record Collected : Type 0 where

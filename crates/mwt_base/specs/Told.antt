@@ -19,6 +19,11 @@ abbrev pub WriteGrows : {E : Type 0} → Option (List ℕ) → Option (List ℕ)
 WriteGrows before after result piece =
     MatchResult result (λ k. Grows before after (take k piece)) (λ _. Grows before after [])
 
+-- what was taken is the front of what was left
+pub record TakesFront (before after : Option (List ℕ)) : Type 0 where
+  pub bytes : List ℕ
+  pub taken : Consumes before after bytes
+
 -- these bytes were all that was left, and the end was seen
 abbrev pub ReadToEnd : Option (List ℕ) → Option (List ℕ) → List ℕ → Type 0
 ReadToEnd None after bytes = ⊤

@@ -3,7 +3,8 @@ ghost use Rattle.std.specs.Prelude.{◌≡◌, ℕ, ◌<◌, ◌≤◌, ◌+◌,
 ghost use Rattle.std.specs.Io.{ReadsAtMost, WritesAtMost};
 ghost use Rattle.std.specs.Io.KnownBytes.{ReadConsumes};
 ghost use Rattle.mwt_base.specs.Causes.{HasCause, Rose};
-ghost use Rattle.mwt_base.specs.Planned.{PlannedCalls, PlannedSource, PlannedSink, planned, fails_next, counted, given_count, taken_count, is_full, after_read, after_failed_read, after_write, after_failed_write};
+ghost use Rattle.mwt_base.specs.Planned.{PlannedCalls, PlannedSource, PlannedSink, planned, fails_next, counted, taken_count, is_full, after_read, after_failed_read, after_write, after_failed_write};
+ghost use Rattle.mwt_base.specs.Sure.{given_count};
 ghost use Rattle.mwt_base.specs.Told.{WriteGrows};
 
 use crate::sure::give;
@@ -94,7 +95,7 @@ impl Source for MemSource {
 
     fn read(&mut self, buf: &mut [u8]) -> Result<usize, Failed>
         ensures fails { is_err result ≡ fails_next self.old.plan }
-        ensures count { IfOk result (λ k. k ≡ given_count self.old buf.old) }
+        ensures count { IfOk result (λ k. k ≡ given_count self.old.left self.old.chunk buf.old) }
         ensures given { IfOk result (λ k. take k buf.new ≡ take k self.old.left) }
         ensures after { IfOk result (λ k. self.new ≡ after_read self.old k) }
         ensures failed { OnErr result (self.new ≡ after_failed_read self.old) }

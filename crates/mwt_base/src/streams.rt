@@ -1,5 +1,5 @@
 // The edge to the real streams. One call is one read or one write of a stream of std; a failed one is counted.
-ghost use Rattle.std.specs.Prelude.{ℕ, None};
+ghost use Rattle.std.specs.Prelude.{◌≡◌, ℕ, None};
 
 use crate::{Failed, Sink, Source};
 use std::io::{Read, Write};
@@ -14,7 +14,10 @@ pub struct StdSource<R: Read> {
 
 impl<R: Read> StdSource<R> {
     /// Takes no memory.
-    pub fn new(reader: R) -> Self {
+    pub fn new(reader: R) -> Self
+        ensures left { ⟦<StdSource<R> as Source>⟧.left result ≡ R.remaining reader }
+        ensures no_fault { ⟦<StdSource<R> as Source>⟧.faults result ≡ 0 }
+    {
         StdSource { reader, faults: 0 }
     }
 }
@@ -47,7 +50,10 @@ pub struct StdSink<W: Write> {
 
 impl<W: Write> StdSink<W> {
     /// Takes no memory.
-    pub fn new(writer: W) -> Self {
+    pub fn new(writer: W) -> Self
+        ensures untold { ⟦<StdSink<W> as Sink>⟧.written result ≡ None }
+        ensures no_fault { ⟦<StdSink<W> as Sink>⟧.faults result ≡ 0 }
+    {
         StdSink { writer, faults: 0 }
     }
 }

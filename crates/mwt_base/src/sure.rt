@@ -1,8 +1,9 @@
 // A source and a sink in memory, of which no call fails.
 ghost use Rattle.std.specs.Prelude.{◌≡◌, ℕ, ◌<◌, ◌≤◌, Some, drop, take, length, min, vec_len, vec_capacity, IfOk, List};
-ghost use Rattle.std.specs.Io.{WritesAtMost};
+ghost use Rattle.std.specs.Io.{ReadsAtMost, WritesAtMost};
+ghost use Rattle.std.specs.Io.KnownBytes.{ReadConsumes};
 ghost use Rattle.mwt_base.specs.Causes.{HasCause};
-ghost use Rattle.mwt_base.specs.Sure.{Collected, Collects, collected_bytes, nothing_collected};
+ghost use Rattle.mwt_base.specs.Sure.{Collected, Collects, Supply, after_sure_read, collected_bytes, given_count, nothing_collected};
 ghost use Rattle.mwt_base.specs.Told.{WriteGrows};
 
 use crate::{Bytes, Failed, NoMemory, Sink, Source};
@@ -18,9 +19,9 @@ pub struct SureSource {
 }
 
 impl Model for SureSource {
-    ghost Value = { List ℕ };
+    ghost Value = { Supply };
 
-    ghost view = { λ s. drop s.at s.bytes };
+    ghost view = { λ s. record { left = drop s.at s.bytes; chunk = s.chunk } };
 
     ghost invariant = { λ s. (s.at ≤ length s.bytes) × (0 < s.chunk) };
 }
@@ -29,7 +30,7 @@ impl SureSource {
     /// A source of these bytes, at most `chunk` of them a read. Takes no memory.
     pub fn new(bytes: Bytes, chunk: usize) -> Self
         requires { 0 < chunk }
-        ensures { result ≡ bytes }
+        ensures { result ≡ record { left = bytes; chunk = chunk } }
     {
         SureSource {
             bytes,
@@ -40,13 +41,22 @@ impl SureSource {
 }
 
 impl Source for SureSource {
-    ghost left = { λ s. Some s };
+    ghost left = { λ s. Some s.left };
 
     ghost faults = { λ s. 0 };
 
     ghost reads = { λ s. 0 };
 
-    fn read(&mut self, buf: &mut [u8]) -> Result<usize, Failed> {
+    fn read(&mut self, buf: &mut [u8]) -> Result<usize, Failed>
+        ensures count { result ≡ Ok (given_count self.old.left self.old.chunk buf.old) }
+        ensures given { IfOk result (λ k. take k buf.new ≡ take k self.old.left) }
+        ensures after { IfOk result (λ k. self.new ≡ after_sure_read self.old k) }
+
+        // What every source promises.
+        ensures bound { ReadsAtMost result buf.new }
+        ensures bytes { ReadConsumes (Some self.old.left) (Some self.new.left) result buf.new }
+        ensures cause { HasCause 0 0 result }
+    {
         let count = give(&self.bytes.as_slice()[self.at..], self.chunk, buf);
         self.at += count;
         Ok(count)

@@ -2,7 +2,7 @@
 ghost use Rattle.std.specs.Prelude.{◌≡◌, ◌+◌, ◌-◌, ◌^◌, ◌<◌, ◌≤◌, true, false, IfOk, IsErrOf, OnOk, OnErr, length, vec_len};
 ghost use Rattle.std.specs.Io.KnownBytes.{IsAtEnd};
 ghost use Rattle.mwt_base.specs.Causes.{Rose};
-ghost use Rattle.mwt_base.specs.Told.{Grows, GrowsByPrefix, KeepsTaken, ReadToEnd, TookMore};
+ghost use Rattle.mwt_base.specs.Told.{Grows, GrowsByPrefix, KeepsTaken, ReadToEnd, TakesFront, TookMore};
 ghost use Rattle.mwt_base.specs.declared.whole.ReadStop.TheVariants.{ReadFault, NoMemory};
 
 use crate::{Bytes, Failed, Sink, Source};
@@ -37,10 +37,11 @@ impl From<AllocError> for ReadStop {
 /// Reads a source to its end, at most `limit` bytes, in pieces of up to 65,536 bytes.
 ///
 /// `ReadFault` comes only where a read failed in this call, `TooLong` only where more than `limit`
-/// bytes were taken. After an error bytes may have been taken.
+/// bytes were taken. Whatever the answer, what was taken is the front of what was left.
 pub fn read_whole<S: Source>(alloc: Global, source: &mut S, limit: usize) -> Result<Bytes, ReadStop>
     requires { limit < 2 ^ 32 }
 
+    ensures taken { TakesFront (S.left source.old) (S.left source.new) }
     ensures whole { IfOk result (ReadToEnd (S.left source.old) (S.left source.new)) }
     ensures within { IfOk result (λ bytes. length bytes ≤ limit) }
     ensures fault { IsErrOf result ReadStop.ReadFault → Rose (S.faults source.old) (S.faults source.new) }
@@ -76,6 +77,7 @@ fn take_piece<S: Source>(
     requires room { 0 < length piece.old }
     requires within { vec_len bytes.old ≤ limit }
 
+    ensures taken { TakesFront (S.left source.old) (S.left source.new) }
     ensures kept { OnOk result (KeepsTaken (S.left source.old) (S.left source.new) bytes.old.items bytes.new.items) }
     ensures within { OnOk result (vec_len bytes.new ≤ limit) }
     ensures more { result ≡ Ok true → vec_len bytes.old < vec_len bytes.new }

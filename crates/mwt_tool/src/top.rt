@@ -73,9 +73,9 @@ pub fn run_in_memory<G: Gate, R: Threads + Sync>(
     gate: &G,
 ) -> Status
     ensures said { result ≢ Status.NoMemory →
-        Says (texts words.now) (Some source.old) result (collected_bytes sink.old) (collected_bytes sink.new) }
+        Says (texts words.now) (Some source.old.left) result (collected_bytes sink.old) (collected_bytes sink.new) }
     ensures no_fault { IsAnswer result ⊎ (result ≡ Status.NoMemory) }
-    ensures complete { IsAcceptedInput (texts words.now) (Some source.old) →
+    ensures complete { IsAcceptedInput (texts words.now) (Some source.old.left) →
         (result ≡ Status.Done) ⊎ (result ≡ Status.NoMemory) }
 {
     run(rt, alloc, words, source, sink, gate)

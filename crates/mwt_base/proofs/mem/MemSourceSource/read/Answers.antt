@@ -1,3 +1,4 @@
+-- A read gives the front of what is left, and nothing only at the end.
 use Rattle.std.proofs.Common.{◌≡◌, ◌∙◌, drop, sym, ap, rules}
 use Rattle.mwt_base.specs.Planned.{PlannedSource}
 use Rattle.mwt_base.proofs.Giving.{gives_front, sees_end}
