@@ -26,7 +26,6 @@ pub mod Line
 pub mod ListFacts
 pub mod Minimums
 pub mod Numbers
-pub mod OneHull
 pub mod Order
 pub mod Orientation
 pub mod Pairs
