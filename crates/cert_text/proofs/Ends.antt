@@ -1,6 +1,7 @@
 -- The lines before the lists of a report and behind them.
 use Rattle.std.proofs.Common.{◌≡◌, ◌⊎◌, ℕ, pos, ◌+◌, ◌*◌, ◌<◌, ◌≤◌, ◌^◌, Bool, true, false, cond, eqb, List, [], ◌∷◌, ◌++◌, Result, Ok, Err, inl, inr, refl, sym, ap, subst, ◌∙◌, arith, codes, bytes_eq}
 use Rattle.std.proofs.lemmas.Fmt.{decimal_digit}
+use Rattle.mwt_base.specs.Limits.{most_amount, most_unit}
 use Rattle.length_enclosure.specs.Amount.{amount}
 use Rattle.cert_text.specs.declared.parts.Head.{Head}
 use Rattle.cert_text.specs.declared.parts.Tail.{Tail}
@@ -71,7 +72,7 @@ head_of h =
 
 pub record IsHead (h : Head) : Type 0 where
   pub version : (h.version ≡ 1) ⊎ (h.version ≡ 2)
-  pub unit : IsFrom 0 7 h.unit
+  pub unit : IsFrom 0 (most_unit + 1) h.unit
   pub merged : IsFrom 0 (2 ^ 32) h.merged
 
 pub head_takes : (bytes : List ℕ) (x : Head × Place) → head_at bytes ≡ Ok x → Took bytes (head_of x.0) x.1.rest × IsHead x.0
@@ -79,11 +80,11 @@ unfolding head_at
 head_takes bytes x e =
     let a = bind_ok (version_at bytes) _ x e in
     let b = bind_ok (value_at diamond_in a.0.1) _ x a.2 in
-    let c = bind_ok (value_at (count_in (codes "unit") 0 7) b.0.1) _ x b.2 in
+    let c = bind_ok (value_at (count_in (codes "unit") 0 (most_unit + 1)) b.0.1) _ x b.2 in
     let d = bind_ok (value_at (count_in (codes "merged") 0 (2 ^ 32)) c.0.1) _ x c.2 in
     let version = version_takes bytes a.0 a.1 in
     let diamond = value_takes diamond_kind a.0.1 b.0 b.1 in
-    let unit = value_takes (count_kind (codes "unit") 0 7 refl (omega arith)) b.0.1 c.0 c.1 in
+    let unit = value_takes (count_kind (codes "unit") 0 (most_unit + 1) refl (omega arith)) b.0.1 c.0 c.1 in
     let merged = value_takes (count_kind (codes "merged") 0 (2 ^ 32) refl (omega arith)) c.0.1 d.0 d.1 in
     let made : Head × Place = (record { version = a.0.0; diamond = b.0.0; unit = c.0.0; merged = d.0.0 }, d.0.1) in
     subst (λ (y : Head × Place). Took bytes (head_of y.0) y.1.rest × IsHead y.0) (ok_is made x d.2)
@@ -103,7 +104,7 @@ head_found h is rest =
     let version = version_found h.version is.version behind_version in
     let n = version.number in
     let diamond = value_found diamond_kind h.diamond tt n behind_diamond in
-    let unit = value_found (count_kind (codes "unit") 0 7 refl (omega arith)) h.unit is.unit (n + 1) behind_unit in
+    let unit = value_found (count_kind (codes "unit") 0 (most_unit + 1) refl (omega arith)) h.unit is.unit (n + 1) behind_unit in
     let merged = value_found (count_kind (codes "merged") 0 (2 ^ 32) refl (omega arith)) h.merged is.merged (n + 1 + 1) rest in
     record { number = n + 1 + 1 + 1; is = ap head_at text ∙ rw (version.is, diamond, unit, merged) refl } where
       four_lines : (a b c d rest : List ℕ) → lines_text (a ∷ b ∷ c ∷ d ∷ []) ++ rest ≡ a ++ 10 ∷ (b ++ 10 ∷ (c ++ 10 ∷ (d ++ 10 ∷ rest)))
@@ -124,9 +125,9 @@ pub record IsTail (version : ℕ) (t : Tail) : Type 0 where
   pub bound : IsUpto (most_bound version) t.bound
   pub gap : IsUpto (most_bound version) t.gap
 
-pub bound_small : (version : ℕ) → most_bound version ≤ 10 ^ 25
+pub bound_small : (version : ℕ) → most_bound version ≤ most_amount
 bound_small version = go (eqb version 1) where
-  go : (b : Bool) → cond b (2 * 10 ^ 22) (10 ^ 24) ≤ 10 ^ 25
+  go : (b : Bool) → cond b (2 * 10 ^ 22) (10 ^ 24) ≤ most_amount
   go true = omega arith
   go false = omega arith
 

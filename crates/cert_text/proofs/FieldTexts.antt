@@ -5,6 +5,7 @@ use Rattle.std.specs.List.{list_all}
 use Rattle.std.specs.Prelude.{int_le}
 use Rattle.std.proofs.lemmas.Bool.{and_parts, and_from, ltb-true, lt-ltb, leb-true, le-leb}
 use Rattle.std.proofs.lemmas.Int.{ints}
+use Rattle.mwt_base.specs.Limits.{most_amount, most_coordinate}
 use Rattle.length_enclosure.specs.declared.units.Units.{Units}
 use Rattle.length_enclosure.specs.declared.units.Units.TheVariants as units
 use Rattle.length_enclosure.specs.Number.{is_digit, is_number, number, is_signed, signed_in}
@@ -58,19 +59,19 @@ size_between m n h = record { least = omega (arith, ints); most = omega (arith, 
 pub between_size : (m : ℕ) (n : ℤ) → IsUpto m n → unsigned_abs n ≤ m
 between_size m n h = let l = h.least in let r = h.most in omega (arith, ints)
 
-pub coordinate_takes : (t : List ℕ) (n : ℤ) → coordinate_in t ≡ Is n → (t ≡ signed_decimal n) × IsUpto (10 ^ 9) n
+pub coordinate_takes : (t : List ℕ) (n : ℤ) → coordinate_in t ≡ Is n → (t ≡ signed_decimal n) × IsUpto most_coordinate n
 unfolding coordinate_in
 coordinate_takes t n e =
     let s = spelled_ok (is_signed is_number number t) _ n e in
     let k = kept_ok _ _ n s.1 in
     let small = leb-true _ _ k.0 in
-    subst (λ (m : ℤ). (t ≡ signed_decimal m) × IsUpto (10 ^ 9) m) k.1
-    (sym (decimal_is (signed_in number t) ∙ signed_spelled number_spelling t s.0 (omega arith)), size_between (10 ^ 9) _ small)
+    subst (λ (m : ℤ). (t ≡ signed_decimal m) × IsUpto most_coordinate m) k.1
+    (sym (decimal_is (signed_in number t) ∙ signed_spelled number_spelling t s.0 (omega arith)), size_between most_coordinate _ small)
 
-pub coordinate_found : (n : ℤ) → IsUpto (10 ^ 9) n → coordinate_in (signed_decimal n) ≡ Is n
+pub coordinate_found : (n : ℤ) → IsUpto most_coordinate n → coordinate_in (signed_decimal n) ≡ Is n
 unfolding coordinate_in
 coordinate_found n h =
-    let small = between_size (10 ^ 9) n h in
+    let small = between_size most_coordinate n h in
     let again = signed_again number_spelling n (omega arith) in
     rw (decimal_is n, again.0, again.1, le-leb _ _ small) refl
 
@@ -96,7 +97,7 @@ amount_takes low high t n e =
     let both = units_value t n in
     ((both.0 r.0).1, r.1)
 
-pub amount_found : (low high n : ℤ) → unsigned_abs n ≤ 10 ^ 25 → IsBetween low high n → amount_within low high (amount n) ≡ Is n
+pub amount_found : (low high n : ℤ) → unsigned_abs n ≤ most_amount → IsBetween low high n → amount_within low high (amount n) ≡ Is n
 unfolding amount_within
 amount_found low high n small h =
     let both = units_value (amount n) n in
@@ -117,15 +118,15 @@ plain_append (b ∷ bs) t hs ht = let p = and_parts _ _ hs in and_from _ _ p.0 (
 pub number_plain : (n : ℕ) → n < 2 ^ 64 → is_plain (decimal n) ≡ true
 number_plain n small = digits_plain (decimal n) (digits_again n small)
 
-pub coordinate_plain : (n : ℤ) → IsUpto (10 ^ 9) n → is_plain (signed_decimal n) ≡ true
-coordinate_plain (pos n) h = let small = between_size (10 ^ 9) (pos n) h in number_plain n (omega arith)
-coordinate_plain (negsuc n) h = let small = between_size (10 ^ 9) (negsuc n) h in number_plain (suc n) (omega arith)
+pub coordinate_plain : (n : ℤ) → IsUpto most_coordinate n → is_plain (signed_decimal n) ≡ true
+coordinate_plain (pos n) h = let small = between_size most_coordinate (pos n) h in number_plain n (omega arith)
+coordinate_plain (negsuc n) h = let small = between_size most_coordinate (negsuc n) h in number_plain (suc n) (omega arith)
 
-size_plain : (n : ℕ) → n ≤ 10 ^ 25 → is_plain (amount_size n) ≡ true
+size_plain : (n : ℕ) → n ≤ most_amount → is_plain (amount_size n) ≡ true
 size_plain n small =
     rw (amount_size_is n) (plain_append (decimal (n / 10 ^ 6)) (46 ∷ six_digits (n % 10 ^ 6)) (number_plain (n / 10 ^ 6) (omega arith))
     (digits_plain (six_digits (n % 10 ^ 6)) (six_digits_are (n % 10 ^ 6))))
 
-pub amount_plain : (n : ℤ) → unsigned_abs n ≤ 10 ^ 25 → is_plain (amount n) ≡ true
+pub amount_plain : (n : ℤ) → unsigned_abs n ≤ most_amount → is_plain (amount n) ≡ true
 amount_plain (pos n) small = size_plain n small
 amount_plain (negsuc n) small = size_plain (suc n) small

@@ -3,13 +3,15 @@ pub mod Ends
 pub mod FieldTexts
 pub mod Growing
 pub mod LineKinds
+pub mod ListParts
 pub mod Lists
 pub mod LiveKinds
 pub mod Loops
-pub mod ListParts
+pub mod Orders
 pub mod ReportSizes
 pub mod Reports
 pub mod RowKinds
+pub mod RowOrders
 pub mod Shapes
 pub mod Sizes
 pub mod Taking

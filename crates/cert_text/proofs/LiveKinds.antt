@@ -3,13 +3,14 @@ use Rattle.std.proofs.Common.{◌≡◌, ℕ, ℤ, pos, ◌≤◌, ◌^◌, true
 use Rattle.std.specs.List.{list_all}
 use Rattle.std.proofs.lemmas.Bool.{and_parts, and_from, eqb-true, eq-eqb}
 use Rattle.std.proofs.lemmas.Int.{ints}
+use Rattle.mwt_base.specs.Limits.{most_amount, most_anchor, most_price}
 use Rattle.exact_predicates.specs.declared.edge.Edge.{Edge}
 use Rattle.cert_text.specs.declared.found.Found.TheVariants.{NotSpelled, Is}
 use Rattle.cert_text.specs.declared.limits.Limits.{Limits}
 use Rattle.cert_text.specs.declared.report.LineKind.{LineKind}
 use Rattle.cert_text.specs.declared.report.LineKind.TheVariants.{Hull, Inner, Skeleton}
 use Rattle.cert_text.specs.declared.report.PriceLine.{PriceLine}
-use Rattle.cert_text.specs.Lines.{ends_in, live_in, one_amount, three_amounts, most_anchor, most_price}
+use Rattle.cert_text.specs.Lines.{ends_in, live_in, one_amount, three_amounts}
 use Rattle.cert_text.specs.Numbers.{amount_within, amount_upto}
 use Rattle.cert_text.specs.Texts.{edge_fields, price_fields, live_fields}
 use Rattle.cert_text.specs.Within.{IsUpto, IsBetween, IsEdgeRow, ArePrices, IsLiveRow}
@@ -82,13 +83,13 @@ live_takes limits few (a ∷ b ∷ kind ∷ value ∷ left ∷ right ∷ []) l e
     skeleton_takes limits few a b kind value left right l (eqb-true _ _ p.0) (word_is kind (codes "s") p.1) t.1
 live_takes limits few fs l e = absurd cc
 
-pub anchor_small : (n : ℤ) → IsUpto most_anchor n → unsigned_abs n ≤ 10 ^ 25
+pub anchor_small : (n : ℤ) → IsUpto most_anchor n → unsigned_abs n ≤ most_amount
 anchor_small n h = let s = between_size most_anchor n h in omega arith
 
-pub price_small : (n : ℤ) → IsUpto most_price n → unsigned_abs n ≤ 10 ^ 25
+pub price_small : (n : ℤ) → IsUpto most_price n → unsigned_abs n ≤ most_amount
 price_small n h = let s = between_size most_price n h in omega arith
 
-pub side_small : (n : ℤ) → IsBetween (pos 0) (pos most_anchor) n → unsigned_abs n ≤ 10 ^ 25
+pub side_small : (n : ℤ) → IsBetween (pos 0) (pos most_anchor) n → unsigned_abs n ≤ most_amount
 side_small n h = let l = h.least in let m = h.most in omega (arith, ints)
 
 prices_found : (limits : Limits) → limits.points ≤ 2 ^ 32 → (e : Edge) → IsEdgeRow limits.points e → (kind : LineKind) (value left right : ℤ) → ArePrices limits.version kind value left right

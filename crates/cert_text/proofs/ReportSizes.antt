@@ -1,6 +1,7 @@
 -- The text of a report has less than 2^32 bytes.
 use Rattle.std.proofs.Common.{◌≡◌, ◌⊎◌, ℕ, ℤ, pos, ◌+◌, ◌*◌, ◌^◌, ◌<◌, ◌≤◌, List, [], ◌∷◌, ◌++◌, length, inl, inr, arith, decimal, codes}
 use Rattle.std.specs.Prelude.{unsigned_abs}
+use Rattle.mwt_base.specs.Limits.{most_amount, most_coordinate, most_edges, most_length, most_points, most_tiles, most_unit}
 use Rattle.exact_predicates.specs.declared.diamond.Diamond.{Diamond}
 use Rattle.exact_predicates.specs.declared.diamond.Diamond.TheVariants.{On, Off}
 use Rattle.exact_predicates.specs.declared.edge.Edge.{Edge}
@@ -24,8 +25,8 @@ use Rattle.cert_text.proofs.Sizes.{width, number_short, coordinate_short, amount
 point_short : (p : Point) → IsPointRow p → width (point_fields p) ≤ 120
 point_short p h =
     let i = number_short p.id h.id in
-    let x = coordinate_short p.x (between_size (10 ^ 9) p.x (record { least = h.place.left; most = h.place.right })) in
-    let y = coordinate_short p.y (between_size (10 ^ 9) p.y (record { least = h.place.low; most = h.place.high })) in
+    let x = coordinate_short p.x (between_size most_coordinate p.x (record { least = h.place.left; most = h.place.right })) in
+    let y = coordinate_short p.y (between_size most_coordinate p.y (record { least = h.place.low; most = h.place.high })) in
     omega (arith, i, x, y)
 
 hull_short : (points : ℕ) → points < 2 ^ 32 → (u : ℕ) → IsHullRow points u → width (hull_fields u) ≤ 120
@@ -78,7 +79,7 @@ version_low : (v : ℕ) → (v ≡ 1) ⊎ (v ≡ 2) → v < 2 ^ 32
 version_low v (inl e) = omega arith
 version_low v (inr e) = omega arith
 
-unit_low : (u : ℕ) → u ≤ 6 → u < 2 ^ 32
+unit_low : (u : ℕ) → u ≤ most_unit → u < 2 ^ 32
 unit_low u h = omega arith
 
 -- lines of at most 120 bytes each
@@ -100,7 +101,7 @@ head_short r is =
       two_words : (d : Diamond) → width (codes "diamond" ∷ diamond_word d ∷ []) ≤ 120
       two_words d = let w = diamond_short d in omega (arith, w)
 
-ends_short : (lo hi : ℕ) → lo ≤ 10 ^ 20 → hi ≤ 10 ^ 20 → width (codes "length" ∷ amount (pos lo) ∷ amount (pos hi) ∷ []) ≤ 120
+ends_short : (lo hi : ℕ) → lo ≤ most_length → hi ≤ most_length → width (codes "length" ∷ amount (pos lo) ∷ amount (pos hi) ∷ []) ≤ 120
 ends_short lo hi l h =
     let a = amount_short (pos lo) (omega arith) in
     let b = amount_short (pos hi) (omega arith) in
@@ -108,7 +109,7 @@ ends_short lo hi l h =
 
 bound_short : (version : ℕ) (word : List ℕ) (n : ℤ) → length word ≤ 20 → IsUpto (most_bound version) n → width (word ∷ amount n ∷ []) ≤ 120
 bound_short version word n few h = go (between_size (most_bound version) n h) (bound_small version) where
-  go : unsigned_abs n ≤ most_bound version → most_bound version ≤ 10 ^ 25 → width (word ∷ amount n ∷ []) ≤ 120
+  go : unsigned_abs n ≤ most_bound version → most_bound version ≤ most_amount → width (word ∷ amount n ∷ []) ≤ 120
   go low small = let a = amount_short n (omega arith) in omega (arith, a)
 
 last_short : width (codes "end" ∷ []) ≤ 120
@@ -127,11 +128,11 @@ tail_short r is =
 -- the sum of the parts
 sum_short : (all head points hull candidates live skeleton tris tail p u l s t : ℕ) → all ≡ head + ((points + (hull + candidates)) + ((live + (skeleton + tris)) + tail))
     → head ≤ 121 * 4 → points ≤ 121 * (p + 1) → hull ≤ 121 * (u + 1) → candidates ≤ 121 * 1 → live ≤ 121 * (l + 1) → skeleton ≤ 121 * (s + 1) → tris ≤ 121 * (t + 1) → tail ≤ 121 * 5
-    → p ≤ 10000 → u ≤ 10000 → l ≤ 400000 → s ≤ 400000 → t ≤ 20000 → all < 2 ^ 32
+    → p ≤ most_points → u ≤ most_points → l ≤ most_edges → s ≤ most_edges → t ≤ most_tiles → all < 2 ^ 32
 sum_short all head points hull candidates live skeleton tris tail p u l s t e h1 h2 h3 h4 h5 h6 h7 h8 hp hu hl hs ht = omega arith
 
-counts_low : (p u l s t c : ℕ) → p < 10001 → u < p + 1 → l ≤ 400000 → s ≤ 400000 → t ≤ 20000 → c ≤ 400000
-    → (p < 2 ^ 32) × (u < 2 ^ 32) × (l < 2 ^ 32) × (s < 2 ^ 32) × (t < 2 ^ 32) × (c < 2 ^ 32) × (p ≤ 10000) × (u ≤ 10000)
+counts_low : (p u l s t c : ℕ) → p < most_points + 1 → u < p + 1 → l ≤ most_edges → s ≤ most_edges → t ≤ most_tiles → c ≤ most_edges
+    → (p < 2 ^ 32) × (u < 2 ^ 32) × (l < 2 ^ 32) × (s < 2 ^ 32) × (t < 2 ^ 32) × (c < 2 ^ 32) × (p ≤ most_points) × (u ≤ most_points)
 counts_low p u l s t c hp hu hl hs ht hc = (omega arith, omega arith, omega arith, omega arith, omega arith, omega arith, omega arith, omega arith)
 
 pub report_short : (r : Report) → IsWithin r → length (report_text r) < 2 ^ 32

@@ -3,6 +3,11 @@ use Rattle.std.proofs.Common.{◌≡◌, ℕ, ◌^◌, Bool, true, false, cond, 
 use Rattle.std.specs.Prelude.{IfOk}
 use Rattle.std.proofs.lemmas.Bool.{eqb-true}
 use Rattle.std.proofs.lemmas.List.{append-nil, nil_from_length}
+use Rattle.std.proofs.lemmas.List.Elements.{All-from_recursion}
+use Rattle.mwt_base.specs.Limits.{most_edges, most_tiles, most_unit}
+use Rattle.exact_predicates.specs.Candidates.{EdgePrecedes}
+use Rattle.exact_predicates.specs.Plane.{Precedes}
+use Rattle.exact_predicates.proofs.Order.{Precedes-trans}
 use Rattle.cert_text.specs.declared.limits.Limits.{Limits}
 use Rattle.cert_text.specs.declared.parts.EdgePart.{EdgePart}
 use Rattle.cert_text.specs.declared.parts.Head.{Head}
@@ -15,9 +20,11 @@ use Rattle.cert_text.specs.Reasons.{refused}
 use Rattle.cert_text.specs.Reading.{Gives, Place}
 use Rattle.cert_text.specs.Texts.{lines_text, report_lines, report_text}
 use Rattle.cert_text.specs.Whole.{head_at, points_at, edges_at, tail_at, report_from, report_at, ended, report_of}
-use Rattle.cert_text.specs.Within.{IsWithin}
+use Rattle.cert_text.specs.Within.{IsWithin, IsPointRow, IsHullRow, IsEdgeRow, IsTriRow, IsLiveRow, LivePrecedes, TriFollows}
 use Rattle.cert_text.proofs.Ends.{head_of, tail_of, IsHead, IsTail, head_takes, head_found, tail_takes, tail_found}
 use Rattle.cert_text.proofs.ListParts.{IsPointPart, IsEdgePart, points_of, edges_of, points_few, at_most, from_most, from_below, points_take, points_found, edges_take, edges_found}
+use Rattle.cert_text.proofs.Orders.{AllPairs-chain, IsChain-pairs, AllByRecursion-all}
+use Rattle.cert_text.proofs.RowOrders.{EdgePrecedes-trans, LivePrecedes-trans, TriFollows-trans}
 use Rattle.cert_text.proofs.Taking.{Took, took_then, text_then, bind_ok, ok_is, Reaches}
 
 -- a report is within its ranges by its parts
@@ -25,23 +32,23 @@ within_from : (h : Head) (p : PointPart) (d : EdgePart) (t : Tail) → IsHead h 
     → IsWithin (report_from h p d t)
 within_from h p d t head points edges tail = record {
   version = head.version;
-  unit = at_most 6 h.unit head.unit;
+  unit = at_most most_unit h.unit head.unit;
   merged = head.merged.most;
   points_count = points.points_count;
-  points = points.points;
-  points_ascend = points.points_ascend;
+  points = All-from_recursion IsPointRow p.points points.points;
+  points_ascend = AllPairs-chain Precedes Precedes-trans p.points points.points_ascend;
   hull_count = points.hull_count;
-  hull = points.hull;
-  candidates = at_most 400000 p.candidates points.candidates;
-  live_count = at_most 400000 (length d.live) edges.live_count;
-  live = edges.live;
-  live_ascend = edges.live_ascend;
-  skeleton_count = at_most 400000 (length d.skeleton) edges.skeleton_count;
-  skeleton = edges.skeleton;
-  skeleton_ascends = edges.skeleton_ascends;
-  tris_count = at_most 20000 (length d.tris) edges.tris_count;
-  tris = edges.tris;
-  tris_ascend = edges.tris_ascend;
+  hull = All-from_recursion (IsHullRow (length p.points)) p.hull points.hull;
+  candidates = at_most most_edges p.candidates points.candidates;
+  live_count = at_most most_edges (length d.live) edges.live_count;
+  live = All-from_recursion (IsLiveRow h.version (length p.points)) d.live edges.live;
+  live_ascend = AllPairs-chain LivePrecedes LivePrecedes-trans d.live edges.live_ascend;
+  skeleton_count = at_most most_edges (length d.skeleton) edges.skeleton_count;
+  skeleton = All-from_recursion (IsEdgeRow (length p.points)) d.skeleton edges.skeleton;
+  skeleton_ascends = AllPairs-chain EdgePrecedes EdgePrecedes-trans d.skeleton edges.skeleton_ascends;
+  tris_count = at_most most_tiles (length d.tris) edges.tris_count;
+  tris = All-from_recursion (IsTriRow (length p.points)) d.tris edges.tris;
+  tris_ascend = AllPairs-chain TriFollows TriFollows-trans d.tris edges.tris_ascend;
   lo = tail.ends.lo;
   hi = tail.ends.hi;
   bound = tail.bound;
@@ -85,25 +92,25 @@ report_found r is rest =
     let behind_points = lines_text (edges_of edges) ++ behind_edges in
     let behind_head = lines_text (points_of points) ++ behind_points in
     let text = parts_text (head_of head) (points_of points) (edges_of edges) (tail_of tail) rest in
-    let h = head_found head (record { version = is.version; unit = from_most 6 r.unit is.unit; merged = from_below (2 ^ 32) r.merged is.merged }) behind_head in
+    let h = head_found head (record { version = is.version; unit = from_most most_unit r.unit is.unit; merged = from_below (2 ^ 32) r.merged is.merged }) behind_head in
     let p = points_found r.version points (record {
       points_count = is.points_count;
-      points = is.points;
-      points_ascend = is.points_ascend;
+      points = AllByRecursion-all IsPointRow r.points is.points;
+      points_ascend = IsChain-pairs Precedes r.points is.points_ascend;
       hull_count = is.hull_count;
-      hull = is.hull;
-      candidates = from_most 400000 r.candidates is.candidates;
+      hull = AllByRecursion-all (IsHullRow (length r.points)) r.hull is.hull;
+      candidates = from_most most_edges r.candidates is.candidates;
     }) h.number behind_points in
     let d = edges_found limits (points_few (length r.points) is.points_count) edges (record {
-      live_count = from_most 400000 (length r.live) is.live_count;
-      live = is.live;
-      live_ascend = is.live_ascend;
-      skeleton_count = from_most 400000 (length r.skeleton) is.skeleton_count;
-      skeleton = is.skeleton;
-      skeleton_ascends = is.skeleton_ascends;
-      tris_count = from_most 20000 (length r.tris) is.tris_count;
-      tris = is.tris;
-      tris_ascend = is.tris_ascend;
+      live_count = from_most most_edges (length r.live) is.live_count;
+      live = AllByRecursion-all (IsLiveRow r.version (length r.points)) r.live is.live;
+      live_ascend = IsChain-pairs LivePrecedes r.live is.live_ascend;
+      skeleton_count = from_most most_edges (length r.skeleton) is.skeleton_count;
+      skeleton = AllByRecursion-all (IsEdgeRow (length r.points)) r.skeleton is.skeleton;
+      skeleton_ascends = IsChain-pairs EdgePrecedes r.skeleton is.skeleton_ascends;
+      tris_count = from_most most_tiles (length r.tris) is.tris_count;
+      tris = AllByRecursion-all (IsTriRow (length r.points)) r.tris is.tris;
+      tris_ascend = IsChain-pairs TriFollows r.tris is.tris_ascend;
     }) p.number behind_edges in
     let t = tail_found r.version tail (record { ends = record { lo = is.lo; hi = is.hi }; bound = is.bound; gap = is.gap }) d.number rest in
     record { number = t.number; is = ap report_at text ∙ rw (h.is, p.is, d.is, t.is) refl }

@@ -1,11 +1,11 @@
 -- The text of a report is short.
-use Rattle.std.proofs.Common.{◌≡◌, ℕ, ℤ, pos, negsuc, suc, ◌+◌, ◌*◌, ◌/◌, ◌%◌, ◌^◌, ◌<◌, ◌≤◌, List, [], ◌∷◌, ◌++◌, length, unsigned_abs, ap, ◌∙◌, arith, decimal}
+use Rattle.std.proofs.Common.{◌≡◌, All, ℕ, ℤ, pos, negsuc, suc, ◌+◌, ◌*◌, ◌/◌, ◌%◌, ◌^◌, ◌<◌, ◌≤◌, List, [], ◌∷◌, ◌++◌, length, unsigned_abs, ap, ◌∙◌, arith, decimal}
 use Rattle.std.specs.Fmt.{signed_decimal}
-use Rattle.std.specs.List.{AllByRecursion}
 use Rattle.std.proofs.lemmas.Fmt.{length-decimal-le}
 use Rattle.std.proofs.lemmas.Grind.{flat_map-append}
 use Rattle.std.proofs.lemmas.List.{length-append}
 use Rattle.std.proofs.lemmas.List.Concat.{flat_map-cons}
+use Rattle.mwt_base.specs.Limits.{most_amount, most_coordinate}
 use Rattle.mwt_base.specs.Line.{line}
 use Rattle.length_enclosure.specs.Amount.{amount, amount_size, six_digits}
 use Rattle.length_enclosure.proofs.Amounts.{amount_size_is}
@@ -25,26 +25,26 @@ spaced_short (f ∷ g ∷ gs) = omega (arith, length-append f (32 ∷ spaced (g 
 pub number_short : (n : ℕ) → n < 2 ^ 32 → length (decimal n) ≤ 10
 number_short n h = length-decimal-le 10 n (omega arith) (omega arith) (omega arith)
 
-pub coordinate_short : (n : ℤ) → unsigned_abs n ≤ 10 ^ 9 → length (signed_decimal n) ≤ 11
+pub coordinate_short : (n : ℤ) → unsigned_abs n ≤ most_coordinate → length (signed_decimal n) ≤ 11
 coordinate_short (pos n) h = let l = number_short n (omega arith) in omega arith
 coordinate_short (negsuc n) h = let l = number_short (suc n) (omega arith) in omega arith
 
-size_short : (n : ℕ) → n ≤ 10 ^ 25 → length (amount_size n) ≤ 27
+size_short : (n : ℕ) → n ≤ most_amount → length (amount_size n) ≤ 27
 size_short n h =
     let w : length (decimal (n / 10 ^ 6)) ≤ 20 = length-decimal-le 20 (n / 10 ^ 6) (omega arith) (omega arith) (omega arith) in
     rw (amount_size_is n) (omega (arith, w, length-append (decimal (n / 10 ^ 6)) (46 ∷ six_digits (n % 10 ^ 6))))
 
-pub amount_short : (n : ℤ) → unsigned_abs n ≤ 10 ^ 25 → length (amount n) ≤ 28
+pub amount_short : (n : ℤ) → unsigned_abs n ≤ most_amount → length (amount n) ≤ 28
 amount_short (pos n) h = let l = size_short n h in omega arith
 amount_short (negsuc n) h = let l = size_short (suc n) h in omega arith
 
 -- the lines of rows, each of at most 120 bytes
-rows_short : {X : Type 0} (spell : X → List (List ℕ)) (In : X → Type 0) → ((x : X) → In x → width (spell x) ≤ 120) → (xs : List X) → AllByRecursion In xs
+rows_short : {X : Type 0} (spell : X → List (List ℕ)) (In : X → Type 0) → ((x : X) → In x → width (spell x) ≤ 120) → (xs : List X) → All In xs
     → length (lines_text (row_lines spell xs)) ≤ 121 * length xs
 rows_short spell In short [] all = omega arith
 rows_short spell In short (x ∷ xs) all =
-    let first = short x all.0 in
-    let others = rows_short spell In short xs all.1 in
+    let first = short x (all 0 x (omega arith)) in
+    let others = rows_short spell In short xs (λ k d inside. all (suc k) d (omega arith)) in
     let text = spaced_short (spell x) in
     let cons : length (lines_text (row_lines spell (x ∷ xs))) ≡ length (line (spaced (spell x)) ++ lines_text (row_lines spell xs)) =
     ap length (flat_map-cons line (spaced (spell x)) (row_lines spell xs)) in
@@ -61,7 +61,7 @@ first_short fs ls m h others =
     omega (arith, h, others, text, cons, length-append (line (spaced fs)) (lines_text ls), length-append (spaced fs) (10 ∷ []))
 
 pub block_short : {X : Type 0} (word : List ℕ) (spell : X → List (List ℕ)) (In : X → Type 0) → length word ≤ 20 → ((x : X) → In x → width (spell x) ≤ 120)
-    → (xs : List X) → length xs < 2 ^ 32 → AllByRecursion In xs → length (lines_text (block word spell xs)) ≤ 121 * (length xs + 1)
+    → (xs : List X) → length xs < 2 ^ 32 → All In xs → length (lines_text (block word spell xs)) ≤ 121 * (length xs + 1)
 block_short word spell In few short xs count all =
     let n = number_short (length xs) count in
     first_short (word ∷ decimal (length xs) ∷ []) (row_lines spell xs) (length xs) (omega arith) (rows_short spell In short xs all)

@@ -3,6 +3,7 @@ use Rattle.std.proofs.Common.{◌≡◌, ℕ, ℤ, pos, ◌≤◌, ◌^◌, true
 use Rattle.std.specs.List.{list_all}
 use Rattle.std.proofs.lemmas.Bool.{and_parts, and_from}
 use Rattle.std.proofs.lemmas.Int.{ints}
+use Rattle.mwt_base.specs.Limits.{most_amount, most_length}
 use Rattle.exact_predicates.specs.declared.diamond.Diamond.{Diamond}
 use Rattle.exact_predicates.specs.declared.diamond.Diamond.TheVariants.{On, Off}
 use Rattle.length_enclosure.specs.Amount.{amount}
@@ -95,13 +96,13 @@ method_kind = record { takes = method_takes; found = method_found; plain = metho
 
 -- the two ends of an enclosure
 pub record AreEnds (ends : ℕ × ℕ) : Type 0 where
-  pub lo : ends.0 ≤ 10 ^ 20
-  pub hi : ends.1 ≤ 10 ^ 20
+  pub lo : ends.0 ≤ most_length
+  pub hi : ends.1 ≤ most_length
 
 abbrev pub ends_fields : ℕ × ℕ → List (List ℕ)
 ends_fields ends = codes "length" ∷ amount (pos ends.0) ∷ amount (pos ends.1) ∷ []
 
-end_takes : (t : List ℕ) (n : ℤ) → length_end_in t ≡ Is n → (t ≡ amount (pos (unsigned_abs n))) × (unsigned_abs n ≤ 10 ^ 20)
+end_takes : (t : List ℕ) (n : ℤ) → length_end_in t ≡ Is n → (t ≡ amount (pos (unsigned_abs n))) × (unsigned_abs n ≤ most_length)
 end_takes t n e =
     let k = amount_takes _ _ t n e in
     let l = k.1.least in
@@ -109,7 +110,7 @@ end_takes t n e =
     let is : n ≡ pos (unsigned_abs n) = omega (arith, ints) in
     (k.0 ∙ ap amount is, omega (arith, ints))
 
-end_found : (n : ℕ) → n ≤ 10 ^ 20 → length_end_in (amount (pos n)) ≡ Is (pos n)
+end_found : (n : ℕ) → n ≤ most_length → length_end_in (amount (pos n)) ≡ Is (pos n)
 end_found n h = amount_found _ _ (pos n) (omega arith) (record { least = omega (arith, ints); most = omega (arith, ints) })
 
 length_takes : (fs : List (List ℕ)) (ends : ℕ × ℕ) → length_in fs ≡ Is ends → (fs ≡ ends_fields ends) × AreEnds ends
@@ -148,13 +149,13 @@ amount_line_takes word most (w ∷ t ∷ []) n e =
     (two_fields _ _ _ _ (word_is w word k.0) m.0, m.1)
 amount_line_takes word most fs n e = absurd cc
 
-amount_line_found : (word : List ℕ) (most : ℕ) → most ≤ 10 ^ 25 → (n : ℤ) → IsUpto most n → amount_line_in word most (word ∷ amount n ∷ []) ≡ Is n
+amount_line_found : (word : List ℕ) (most : ℕ) → most ≤ most_amount → (n : ℤ) → IsUpto most n → amount_line_in word most (word ∷ amount n ∷ []) ≡ Is n
 unfolding amount_line_in
 amount_line_found word most few n h =
     let small = between_size most n h in
     rw (word_same word, amount_found _ _ n (omega arith) h) refl
 
-pub amount_kind : (word : List ℕ) (most : ℕ) → is_plain word ≡ true → most ≤ 10 ^ 25 → IsKind (amount_line_in word most) (λ n. word ∷ amount n ∷ []) (IsUpto most)
+pub amount_kind : (word : List ℕ) (most : ℕ) → is_plain word ≡ true → most ≤ most_amount → IsKind (amount_line_in word most) (λ n. word ∷ amount n ∷ []) (IsUpto most)
 amount_kind word most plain few = record {
   takes = amount_line_takes word most;
   found = amount_line_found word most few;

@@ -1,6 +1,7 @@
 -- What each kind of line says, by its fields.
 use Rattle.std.specs.Prelude.{◌≡◌, ℕ, ℤ, pos, ◌*◌, ◌^◌, Bool, true, false, ◌&&◌, List, [], ◌∷◌, unsigned_abs, bytes_eq, codes, nat_lt, refl, ◌==◌, if◌then◌else◌}
 use Rattle.std.proofs.lemmas.Bool.{ltb-true, eqb-false}
+use Rattle.mwt_base.specs.Limits.{most_anchor, most_length, most_price}
 use Rattle.exact_predicates.specs.declared.diamond.Diamond.{Diamond}
 use Rattle.exact_predicates.specs.declared.diamond.Diamond.TheVariants.{On, Off}
 use Rattle.exact_predicates.specs.declared.edge.Edge.{Edge}
@@ -76,12 +77,6 @@ three_amounts edge value left right =
     with_value (λ v. Is (record { edge = v.0.0.0; kind = Skeleton; value = v.0.0.1; left = v.0.1; right = v.1 }))
     (both (both (both edge value) left) right)
 
-abbrev pub most_anchor : ℕ
-most_anchor = 10 ^ 18
-
-abbrev pub most_price : ℕ
-most_price = 4 * 10 ^ 17
-
 -- a live edge with one amount, by its kind
 abbrev pub hull_or_inner : List ℕ → Found Edge → List ℕ → Found PriceLine
 hull_or_inner kind edge value =
@@ -117,7 +112,7 @@ method_in (w ∷ m ∷ []) = if bytes_eq w (codes "method") && bytes_eq m (codes
 method_in _ = NotSpelled
 
 abbrev pub length_end_in : List ℕ → Found ℤ
-length_end_in text = amount_within (pos 0) (pos (10 ^ 20)) text
+length_end_in text = amount_within (pos 0) (pos most_length) text
 
 -- the two ends of an enclosure
 unfoldable pub length_in : List (List ℕ) → Found (ℕ × ℕ)

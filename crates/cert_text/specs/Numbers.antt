@@ -1,5 +1,6 @@
 -- What a field says that is to be a number or an amount within a range.
 use Rattle.std.specs.Prelude.{ℕ, ℤ, pos, neg_ℤ, ◌^◌, Bool, not, ◌&&◌, List, unsigned_abs, nat_lt, nat_le, int_le, if◌then◌else◌}
+use Rattle.mwt_base.specs.Limits.{most_coordinate}
 use Rattle.length_enclosure.specs.declared.units.Units.{Units}
 use Rattle.length_enclosure.specs.declared.units.Units.TheVariants as units
 use Rattle.length_enclosure.specs.Number.{is_number, number, is_signed, signed_in}
@@ -21,7 +22,7 @@ number_in low end text =
 unfoldable pub coordinate_in : List ℕ → Found ℤ
 coordinate_in text =
     if not (is_signed is_number number text) then NotSpelled
-    else kept_if (nat_le (unsigned_abs (signed_in number text)) (10 ^ 9)) (signed_in number text)
+    else kept_if (nat_le (unsigned_abs (signed_in number text)) most_coordinate) (signed_in number text)
 
 abbrev pub ranged : ℤ → ℤ → Units → Found ℤ
 ranged low high units.NoAmount = NotSpelled

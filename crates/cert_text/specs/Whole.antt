@@ -1,5 +1,6 @@
 -- Reading a whole report.
 use Rattle.std.specs.Prelude.{ℕ, ◌+◌, ◌^◌, List, length, Result, Ok, Err, codes, ◌==◌, if◌then◌else◌}
+use Rattle.mwt_base.specs.Limits.{most_edges, most_points, most_tiles, most_unit}
 use Rattle.cert_text.specs.declared.limits.Limits.{Limits}
 use Rattle.cert_text.specs.declared.parts.EdgePart.{EdgePart}
 use Rattle.cert_text.specs.declared.parts.Head.{Head}
@@ -18,7 +19,7 @@ unfoldable pub head_at : List ℕ → Result (Head × Place) Refusal2
 head_at bytes = do
   version ← version_at bytes
   diamond ← value_at diamond_in version.1
-  unit ← value_at (count_in (codes "unit") 0 7) diamond.1
+  unit ← value_at (count_in (codes "unit") 0 (most_unit + 1)) diamond.1
   merged ← value_at (count_in (codes "merged") 0 (2 ^ 32)) unit.1
   Ok (record { version = version.0; diamond = diamond.0; unit = unit.0; merged = merged.0 }, merged.1)
 
@@ -35,18 +36,18 @@ tail_at version p = do
 -- the points, the hull and the number of candidate edges
 unfoldable pub points_at : ℕ → Place → Result (PointPart × Place) Refusal2
 points_at version p = do
-  points ← block_at (codes "points") 3 10001 point_in point_may_follow p
+  points ← block_at (codes "points") 3 (most_points + 1) point_in point_may_follow p
   let limits : Limits = record { version = version; points = length points.0 }
   hull ← block_at (codes "hull") 3 (length points.0 + 1) (hull_in limits) hull_may_follow points.1
-  candidates ← value_at (count_in (codes "candidates") 0 400001) hull.1
+  candidates ← value_at (count_in (codes "candidates") 0 (most_edges + 1)) hull.1
   Ok (record { points = points.0; hull = hull.0; candidates = candidates.0 }, candidates.1)
 
 -- the live edges, the skeleton and the triangles
 unfoldable pub edges_at : Limits → Place → Result (EdgePart × Place) Refusal2
 edges_at limits p = do
-  live ← block_at (codes "live") 0 400001 (live_in limits) live_may_follow p
-  skeleton ← block_at (codes "skeleton") 0 400001 (edge_in limits) edge_may_follow live.1
-  tris ← block_at (codes "triangles") 0 20001 (tri_in limits) tri_may_follow skeleton.1
+  live ← block_at (codes "live") 0 (most_edges + 1) (live_in limits) live_may_follow p
+  skeleton ← block_at (codes "skeleton") 0 (most_edges + 1) (edge_in limits) edge_may_follow live.1
+  tris ← block_at (codes "triangles") 0 (most_tiles + 1) (tri_in limits) tri_may_follow skeleton.1
   Ok (record { live = live.0; skeleton = skeleton.0; tris = tris.0 }, tris.1)
 
 -- a report by its parts

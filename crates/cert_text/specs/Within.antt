@@ -1,6 +1,6 @@
 -- The ranges of a report, and the orders of its lists.
-use Rattle.std.specs.Prelude.{◌≡◌, ◌⊎◌, ℕ, ℤ, pos, neg_ℤ, ◌+◌, ◌^◌, ◌<◌, ◌≤◌, ◌≤ℤ◌, ⊤, List, [], ◌∷◌, length, Option, Some, None}
-use Rattle.std.specs.List.{AllByRecursion}
+use Rattle.std.specs.Prelude.{◌≡◌, ◌⊎◌, ℕ, ℤ, pos, neg_ℤ, ◌+◌, ◌^◌, ◌<◌, ◌≤◌, ◌≤ℤ◌, List, length, All, AllPairs}
+use Rattle.mwt_base.specs.Limits.{most_anchor, most_edges, most_length, most_points, most_price, most_tiles, most_unit}
 use Rattle.exact_predicates.specs.declared.edge.Edge.{Edge}
 use Rattle.exact_predicates.specs.declared.point.Point.{Point}
 use Rattle.exact_predicates.specs.declared.tri.Tri.{Tri}
@@ -10,7 +10,7 @@ use Rattle.cert_text.specs.declared.report.LineKind.{LineKind}
 use Rattle.cert_text.specs.declared.report.LineKind.TheVariants.{Hull, Inner, Skeleton}
 use Rattle.cert_text.specs.declared.report.PriceLine.{PriceLine}
 use Rattle.cert_text.specs.declared.report.Report.{Report}
-use Rattle.cert_text.specs.Lines.{most_anchor, most_price, most_bound}
+use Rattle.cert_text.specs.Lines.{most_bound}
 
 -- n is from low to below end
 pub record IsFrom (low end n : ℕ) : Type 0 where
@@ -58,33 +58,27 @@ LivePrecedes l m = EdgePrecedes l.edge m.edge
 abbrev pub TriFollows : Tri → Tri → Type 0
 TriFollows s t = TriPrecedes s t ⊎ (s ≡ t)
 
--- each is R behind the one before it, and the first behind the last one, if there is one
-abbrev pub IsChain : {X : Type 0} → (X → X → Type 0) → Option X → List X → Type 0
-IsChain R last [] = ⊤
-IsChain R None (x ∷ xs) = IsChain R (Some x) xs
-IsChain R (Some last) (x ∷ xs) = R last x × IsChain R (Some x) xs
-
 -- A report is within its ranges, and its lists ascend.
 pub record IsWithin (r : Report) : Type 0 where
   pub version : (r.version ≡ 1) ⊎ (r.version ≡ 2)
-  pub unit : r.unit ≤ 6
+  pub unit : r.unit ≤ most_unit
   pub merged : r.merged < 2 ^ 32
-  pub points_count : IsFrom 3 10001 (length r.points)
-  pub points : AllByRecursion IsPointRow r.points
-  pub points_ascend : IsChain Precedes None r.points
+  pub points_count : IsFrom 3 (most_points + 1) (length r.points)
+  pub points : All IsPointRow r.points
+  pub points_ascend : AllPairs Precedes r.points
   pub hull_count : IsFrom 3 (length r.points + 1) (length r.hull)
-  pub hull : AllByRecursion (IsHullRow (length r.points)) r.hull
-  pub candidates : r.candidates ≤ 400000
-  pub live_count : length r.live ≤ 400000
-  pub live : AllByRecursion (IsLiveRow r.version (length r.points)) r.live
-  pub live_ascend : IsChain LivePrecedes None r.live
-  pub skeleton_count : length r.skeleton ≤ 400000
-  pub skeleton : AllByRecursion (IsEdgeRow (length r.points)) r.skeleton
-  pub skeleton_ascends : IsChain EdgePrecedes None r.skeleton
-  pub tris_count : length r.tris ≤ 20000
-  pub tris : AllByRecursion (IsTriRow (length r.points)) r.tris
-  pub tris_ascend : IsChain TriFollows None r.tris
-  pub lo : r.lo ≤ 10 ^ 20
-  pub hi : r.hi ≤ 10 ^ 20
+  pub hull : All (IsHullRow (length r.points)) r.hull
+  pub candidates : r.candidates ≤ most_edges
+  pub live_count : length r.live ≤ most_edges
+  pub live : All (IsLiveRow r.version (length r.points)) r.live
+  pub live_ascend : AllPairs LivePrecedes r.live
+  pub skeleton_count : length r.skeleton ≤ most_edges
+  pub skeleton : All (IsEdgeRow (length r.points)) r.skeleton
+  pub skeleton_ascends : AllPairs EdgePrecedes r.skeleton
+  pub tris_count : length r.tris ≤ most_tiles
+  pub tris : All (IsTriRow (length r.points)) r.tris
+  pub tris_ascend : AllPairs TriFollows r.tris
+  pub lo : r.lo ≤ most_length
+  pub hi : r.hi ≤ most_length
   pub bound : IsUpto (most_bound r.version) r.bound
   pub gap : IsUpto (most_bound r.version) r.gap

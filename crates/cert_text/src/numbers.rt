@@ -9,8 +9,8 @@ use length_enclosure::{Units, number_up_to, read_units};
 // Above every number of a report.
 const CAP: u128 = 1 << 32;
 
-// The greatest size of a coordinate.
-const LIMIT: u128 = 1_000_000_000;
+// The greatest size of a coordinate, in scaled units.
+const MOST_COORDINATE: u128 = 1_000_000_000;
 
 /// A number from `low` to below `end`.
 #[tactic(auto, unfolding(crate::specs::Numbers::number_in))]
@@ -39,7 +39,7 @@ pub fn coordinate_in(text: &[u8]) -> Found<i64>
     if negative && size == 0 {
         return Found::NotSpelled;
     }
-    if LIMIT < size {
+    if MOST_COORDINATE < size {
         return Found::Outside;
     }
     let size = size as i64;

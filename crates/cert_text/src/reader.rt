@@ -1,5 +1,6 @@
 // A text that is read line by line.
 ghost use Rattle.std.specs.Prelude.{◌≡◌, ◌+◌, ◌<◌, ◌≤◌, ◌^◌, length, None, IfOk, OnOk, vec_len};
+ghost use Rattle.mwt_base.specs.Limits.{most_amount};
 ghost use Rattle.cert_text.specs.Found.{IfIs};
 ghost use Rattle.cert_text.specs.Reading.{Gives, line_at, judged, value_at, is_behind, row_at, rows_at, block_at, version_at, version_by};
 ghost use Rattle.cert_text.specs.Lines.{count_in, diamond_in, method_in, length_in, amount_line_in, end_in};
@@ -123,7 +124,7 @@ impl<'a> Reader<'a> {
     /// A line with a word and an amount of at most this size.
     #[tactic(auto, unfolding(crate::specs::Reading::value_at))]
     pub fn amount(&mut self, word: &[u8], most: u128) -> Result<i128, ReportStop>
-        requires { most ≤ 10 ^ 25 }
+        requires { most ≤ most_amount }
         ensures { Gives (λ n. (n, place self.new)) result (value_at (amount_line_in word.now most) (place self.old)) }
     {
         let number = self.number;

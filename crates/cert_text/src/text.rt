@@ -1,6 +1,7 @@
 // A text that grows by words, numbers and amounts.
 ghost use Rattle.std.specs.Prelude.{◌≡◌, ◌*◌, ◌^◌, ◌≤◌, [], ◌∷◌, ◌++◌, unsigned_abs, codes, decimal, OnOk};
 ghost use Rattle.std.specs.Fmt.{signed_decimal};
+ghost use Rattle.mwt_base.specs.Limits.{most_amount};
 ghost use Rattle.length_enclosure.specs.Amount.{amount};
 
 use itoa::Buffer;
@@ -53,7 +54,7 @@ impl Text {
 
     /// A number of millionths.
     pub fn amount(&mut self, n: i128) -> Result<(), NoMemory>
-        requires { unsigned_abs n ≤ 10 ^ 25 }
+        requires { unsigned_abs n ≤ most_amount }
         ensures { OnOk result (self.new ≡ self.old ++ amount n) }
     {
         write_units(&mut self.bytes, n)

@@ -1,5 +1,6 @@
 // Reads a whole report.
 ghost use Rattle.std.specs.Prelude.{◌≡◌, ◌<◌, ◌≤◌, ◌^◌, length, IfOk, Ok};
+ghost use Rattle.mwt_base.specs.Limits.{most_amount};
 ghost use Rattle.cert_text.specs.declared.report.Report.{Report as report_type};
 ghost use Rattle.cert_text.specs.Lines.{most_bound};
 ghost use Rattle.cert_text.specs.Places.{place};
@@ -8,7 +9,7 @@ ghost use Rattle.cert_text.specs.Texts.{report_text};
 ghost use Rattle.cert_text.specs.Whole.{head_at, tail_at, points_at, edges_at, report_from, report_of};
 ghost use Rattle.cert_text.specs.Within.{IsWithin};
 
-use crate::limits::Limits;
+use crate::limits::{Limits, MOST_EDGES, MOST_POINTS, MOST_TILES, MOST_UNIT};
 use crate::parts::{EdgePart, Head, PointPart, Tail};
 use crate::reader::Reader;
 use crate::refusal::{Reason, ReportStop};
@@ -24,7 +25,7 @@ fn head(bytes: &[u8]) -> Result<(Head, Reader<'_>), ReportStop>
 {
     let (version, mut reader) = Reader::of(bytes)?;
     let diamond = reader.diamond()?;
-    let unit = reader.count(b"unit", 0, 7)?;
+    let unit = reader.count(b"unit", 0, MOST_UNIT + 1)?;
     let merged = reader.count(b"merged", 0, 1 << 32)?;
     let head = Head {
         version,
@@ -38,7 +39,7 @@ fn head(bytes: &[u8]) -> Result<(Head, Reader<'_>), ReportStop>
 // The most millionths of a bound and of a gap.
 fn most_bound(version: u32) -> u128
     ensures is { result ≡ most_bound version }
-    ensures few { result ≤ 10 ^ 25 }
+    ensures few { result ≤ most_amount }
 {
     if version == 1 {
         20_000_000_000_000_000_000_000
@@ -73,14 +74,14 @@ fn points(alloc: Global, reader: &mut Reader, version: u32) -> Result<PointPart,
     ensures { Gives (λ part. (part, place reader.new)) result (points_at version (place reader.old)) }
 {
     let none = Limits { version, points: 0 };
-    let points = reader.block(alloc, none, b"points", 3, 10_001)?;
+    let points = reader.block(alloc, none, b"points", 3, MOST_POINTS + 1)?;
     let count = points.len();
     let limits = Limits {
         version,
         points: count,
     };
     let hull = reader.block(alloc, limits, b"hull", 3, u64::from(count) + 1)?;
-    let candidates = reader.count(b"candidates", 0, 400_001)?;
+    let candidates = reader.count(b"candidates", 0, MOST_EDGES + 1)?;
     Ok(PointPart {
         points,
         hull,
@@ -93,9 +94,9 @@ fn points(alloc: Global, reader: &mut Reader, version: u32) -> Result<PointPart,
 fn edges(alloc: Global, reader: &mut Reader, limits: Limits) -> Result<EdgePart, ReportStop>
     ensures { Gives (λ part. (part, place reader.new)) result (edges_at limits (place reader.old)) }
 {
-    let live = reader.block(alloc, limits, b"live", 0, 400_001)?;
-    let skeleton = reader.block(alloc, limits, b"skeleton", 0, 400_001)?;
-    let tris = reader.block(alloc, limits, b"triangles", 0, 20_001)?;
+    let live = reader.block(alloc, limits, b"live", 0, MOST_EDGES + 1)?;
+    let skeleton = reader.block(alloc, limits, b"skeleton", 0, MOST_EDGES + 1)?;
+    let tris = reader.block(alloc, limits, b"triangles", 0, MOST_TILES + 1)?;
     Ok(EdgePart {
         live,
         skeleton,

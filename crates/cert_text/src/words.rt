@@ -1,5 +1,6 @@
 // The lines that begin with a word.
 ghost use Rattle.std.specs.Prelude.{◌≡◌, ◌≤◌, ◌^◌, pos, neg_ℤ, unsigned_abs};
+ghost use Rattle.mwt_base.specs.Limits.{most_amount};
 ghost use Rattle.cert_text.specs.Cuts.{fields};
 ghost use Rattle.cert_text.specs.Found.{IfIs};
 ghost use Rattle.cert_text.specs.Lines.{count_in, diamond_of, diamond_in, method_in, length_in, amount_line_in, end_in};
@@ -107,7 +108,7 @@ pub fn length_in(line: &[u8]) -> Found<(u128, u128)>
 /// A word and an amount of at most this size.
 #[tactic(auto, unfolding(crate::specs::Lines::amount_line_in))]
 pub fn amount_line_in(word: &[u8], most: u128, line: &[u8]) -> Found<i128>
-    requires { most ≤ 10 ^ 25 }
+    requires { most ≤ most_amount }
     ensures { result ≡ amount_line_in word.now most (fields line.now) }
 {
     let mut fields = Fields::of(line);

@@ -1,5 +1,6 @@
 // Writes a report.
 ghost use Rattle.std.specs.Prelude.{◌≡◌, ◌^◌, ◌≤◌, [], ◌∷◌, ◌++◌, pos, unsigned_abs, codes, IfOk, OnOk};
+ghost use Rattle.mwt_base.specs.Limits.{most_amount, most_length};
 ghost use Rattle.length_enclosure.specs.Amount.{amount};
 ghost use Rattle.cert_text.specs.Texts.{Grows, spaced, count_line, block, diamond_word, method_word, head_lines, point_lines, edge_lines, length_lines, tail_lines, report_text};
 ghost use Rattle.cert_text.specs.Within.{IsWithin};
@@ -50,7 +51,7 @@ fn write_count(text: &mut Text, word: &str, n: u32) -> Result<(), NoMemory>
 
 // A line with a word and an amount.
 fn write_amount(text: &mut Text, word: &str, n: i128) -> Result<(), NoMemory>
-    requires { unsigned_abs n ≤ 10 ^ 25 }
+    requires { unsigned_abs n ≤ most_amount }
     ensures { OnOk result (Grows text.old text.new (spaced (word.now ∷ amount n ∷ []) ∷ [])) }
 {
     text.word(word)?;
@@ -61,8 +62,8 @@ fn write_amount(text: &mut Text, word: &str, n: i128) -> Result<(), NoMemory>
 
 // The line with the two ends of the enclosure.
 fn write_length(text: &mut Text, lo: u128, hi: u128) -> Result<(), NoMemory>
-    requires lo { lo ≤ 10 ^ 20 }
-    requires hi { hi ≤ 10 ^ 20 }
+    requires lo { lo ≤ most_length }
+    requires hi { hi ≤ most_length }
     ensures { OnOk result (Grows text.old text.new
         (spaced (codes "length" ∷ amount (pos lo) ∷ amount (pos hi) ∷ []) ∷ [])) }
 {
@@ -97,10 +98,10 @@ fn write_head(text: &mut Text, report: &Report) -> Result<(), NoMemory>
 
 // The lines with the lengths.
 fn write_lengths(text: &mut Text, report: &Report) -> Result<(), NoMemory>
-    requires lo { report.now.lo ≤ 10 ^ 20 }
-    requires hi { report.now.hi ≤ 10 ^ 20 }
-    requires bound { unsigned_abs report.now.bound ≤ 10 ^ 25 }
-    requires gap { unsigned_abs report.now.gap ≤ 10 ^ 25 }
+    requires lo { report.now.lo ≤ most_length }
+    requires hi { report.now.hi ≤ most_length }
+    requires bound { unsigned_abs report.now.bound ≤ most_amount }
+    requires gap { unsigned_abs report.now.gap ≤ most_amount }
     ensures { OnOk result (Grows text.old text.new (length_lines report.now)) }
 {
     write_length(text, report.lo, report.hi)?;
@@ -111,10 +112,10 @@ fn write_lengths(text: &mut Text, report: &Report) -> Result<(), NoMemory>
 
 // The lines behind the lists.
 fn write_tail(text: &mut Text, report: &Report) -> Result<(), NoMemory>
-    requires lo { report.now.lo ≤ 10 ^ 20 }
-    requires hi { report.now.hi ≤ 10 ^ 20 }
-    requires bound { unsigned_abs report.now.bound ≤ 10 ^ 25 }
-    requires gap { unsigned_abs report.now.gap ≤ 10 ^ 25 }
+    requires lo { report.now.lo ≤ most_length }
+    requires hi { report.now.hi ≤ most_length }
+    requires bound { unsigned_abs report.now.bound ≤ most_amount }
+    requires gap { unsigned_abs report.now.gap ≤ most_amount }
     ensures { OnOk result (Grows text.old text.new (tail_lines report.now)) }
 {
     write_words(text, "method", method_word(report.method))?;
