@@ -44,3 +44,7 @@ most_anchor = 10 ^ 18
 -- the greatest size of an amount that is written or read, in millionths
 abbrev pub most_amount : ℕ
 most_amount = 10 ^ 25
+
+-- the most workers
+abbrev pub most_workers : ℕ
+most_workers = 64
