@@ -24,8 +24,10 @@ pub mod IntSigns
 pub mod Leasts
 pub mod Line
 pub mod ListFacts
+pub mod ListOrder
 pub mod Minimums
 pub mod Numbers
+pub mod OneHull
 pub mod Order
 pub mod Orientation
 pub mod Pairs
@@ -38,6 +40,7 @@ pub mod Rings
 pub mod Roots
 pub mod Scales
 pub mod Sides
+pub mod SidesCounted
 pub mod TriCodes
 pub mod Triangles
 pub mod Triangulations

@@ -38,3 +38,10 @@ orient_swapped_last p q r = ring (coordinates (p ∷ q ∷ r ∷ [])) (plus (tur
 pub orient_four : (p q r s : Point) → orient p q s +ℤ (orient q r s +ℤ orient r p s) ≡ orient p q r
 unfolding orient
 orient_four p q r s = ring (coordinates (p ∷ q ∷ r ∷ s ∷ [])) (plus (turn 0 2 6) (plus (turn 2 4 6) (turn 4 0 6))) (turn 0 2 4) (omega arith)
+
+-- three points of which two are the same do not turn
+pub orient_last_twice : (p q : Point) → orient p q q ≡ pos 0
+orient_last_twice p q = omega (arith, ints, orient_swapped_last p q q)
+
+pub orient_back : (p q : Point) → orient p q p ≡ pos 0
+orient_back p q = omega (arith, ints, orient_turned p q p, orient_last_twice q p)

@@ -1,6 +1,6 @@
 -- Tests on sides and pairs of the hull.
-use Rattle.std.proofs.Common.{◌≡◌, ℕ, ◌<◌, ◌≤◌, true, cond, List, length, get_or, sum_by, Decides, arith, ap, ◌∙◌, refl, ⊎_elim}
-use Rattle.std.proofs.lemmas.Bool.{cases_Bool}
+use Rattle.std.proofs.Common.{◌≡◌, ℕ, ◌<◌, ◌≤◌, true, cond, List, length, get_or, sum_by, Decides, arith, ap, ◌∙◌, refl, ⊎_elim, ◌⊎◌, inl, inr}
+use Rattle.std.proofs.lemmas.Bool.{both_ways, cases_Bool}
 use Rattle.std.proofs.lemmas.Bool.Decides.{Decides-eqb, Decides-and, Decides-not, Decides-ltb, Decides-by_or, Decides-like, same_from_decides}
 use Rattle.std.proofs.lemmas.List.Sums.{get_or-le-sum_by}
 use Rattle.std.proofs.lemmas.List.Elements.{Decides-contains}
@@ -36,6 +36,11 @@ pub is_pair_decides : (hull : List ℕ) (x y : ℕ) → Decides (list_any (is_si
 is_pair_decides hull x y =
     let same : (s : ℕ × ℕ) → Decides (is_side x y s) (s ≡ (x, y)) = λ s. Decides-like _ (λ (e, f). ap (λ z. (z, s.1)) e ∙ ap (λ z. (x, z)) f) (λ e. (ap (λ (p : ℕ × ℕ). p.0) e, ap (λ (p : ℕ × ℕ). p.1) e)) (is_side_decides x y s.0 s.1) in
     Decides-contains (ring_pairs hull) (x, y) _ (Decides-by_or (is_side x y) (λ s. s ≡ (x, y)) (list_any (is_side x y)) same refl (λ _ _. refl) (ring_pairs hull))
+
+pub pair_or_not : (hull : List ℕ) (x y : ℕ) → IsHullPair hull x y ⊎ (¬ IsHullPair hull x y)
+pair_or_not hull x y =
+    let d = is_pair_decides hull x y in
+    ⊎_elim (λ t. inl (d.0 t)) (λ f. inr (λ p. both_ways _ f (d.1 p))) (cases_Bool (list_any (is_side x y) (ring_pairs hull)))
 
 pub is_inner_decides : (hull : List ℕ) (x y : ℕ) → Decides (is_inner hull (x, y)) ((x < y) × (¬ IsHullPair hull x y))
 is_inner_decides hull x y = Decides-and _ _ (Decides-ltb x y) (Decides-not _ (is_pair_decides hull x y))

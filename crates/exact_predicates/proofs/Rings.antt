@@ -1,9 +1,10 @@
 -- The pairs of a ring of numbers, by their places.
-use Rattle.std.proofs.Common.{◌≡◌, ℕ, zero, suc, ◌+◌, ◌<◌, List, [], ◌∷◌, ◌++◌, length, get_or, slice_index, arith, ap, sym, ◌∙◌, refl, subst, ⊎_elim, ◌⊎◌, inl, inr}
+use Rattle.std.proofs.Common.{◌≡◌, ◌≢◌, ℕ, zero, suc, ◌+◌, ◌<◌, List, [], ◌∷◌, ◌++◌, length, get_or, slice_index, arith, ap, sym, ◌∙◌, refl, subst, ⊎_elim, ◌⊎◌, inl, inr}
 use Rattle.std.proofs.lemmas.Bool.{cases_lt}
 use Rattle.std.proofs.lemmas.List.{length_push, get_or_append_left, get_or_push, get_or_default}
 use Rattle.std.proofs.lemmas.Slice.Zip.{length-zip, get_or-zip}
-use Rattle.exact_predicates.specs.Hull.{ring_pairs, IsHullPair}
+use Rattle.exact_predicates.specs.declared.point.Point.{Point}
+use Rattle.exact_predicates.specs.Hull.{IsHull, IsHullPair, ring_pairs}
 
 -- what follows place k of a ring
 abbrev pub IsNext : List ℕ → ℕ → ℕ → Type 0
@@ -57,3 +58,21 @@ pair_at h u v k d l e next =
 -- and each place has a pair
 pub pair_of_place : (h : List ℕ) (u v k : ℕ) → k < length h → slice_index h k ≡ u → IsNext h k v → IsHullPair h u v
 pair_of_place h u v k l e next = (k, omega (arith, length-ring h, l), pair_at h u v k (u, v) l e next)
+
+-- the ends of a pair of the hull of some points are two of these
+pub pair_ends : (ps : List Point) (h : List ℕ) (u v : ℕ) → IsHull ps h → IsHullPair h u v → (u < length ps) × (v < length ps) × (u ≢ v)
+pair_ends ps h u v hull pair =
+    let (k, k_in, at_k, next) = place_of_pair h u v pair in
+    let three = hull.three in
+    ⊎_elim
+    (λ (l, at_next). (
+      subst (λ (x : ℕ). x < length ps) at_k (hull.within k 0 k_in),
+      subst (λ (x : ℕ). x < length ps) at_next (hull.within (k + 1) 0 l),
+      λ e. hull.distinct k (k + 1) 0 (omega arith) l (at_k ∙ (e ∙ sym at_next)),
+    ))
+    (λ (l, at_next). (
+      subst (λ (x : ℕ). x < length ps) at_k (hull.within k 0 k_in),
+      subst (λ (x : ℕ). x < length ps) at_next (hull.within 0 0 (omega arith)),
+      λ e. hull.distinct 0 k 0 (omega arith) k_in (at_next ∙ (sym e ∙ sym at_k)),
+    ))
+    next

@@ -1,5 +1,7 @@
 -- Candidate edges, and the empty triangles that they bound.
 use Rattle.std.specs.Prelude.{◌≡◌, ◌≢◌, ◌⊎◌, ℕ, ◌<◌, min, max, ⊤, List, length, All, AllPairs, Any, Contains}
+use Rattle.std.specs.Ordering.{nat_cmp, ordering_then}
+use Rattle.std.specs.declared.cmp.Ordering.{Ordering}
 use Rattle.exact_predicates.specs.declared.diamond.Diamond.{Diamond}
 use Rattle.exact_predicates.specs.declared.diamond.Diamond.TheVariants.{Off, On}
 use Rattle.exact_predicates.specs.declared.edge.Edge.{Edge}
@@ -10,9 +12,17 @@ use Rattle.exact_predicates.specs.Plane.{IsBetween, IsInLeftDiamond}
 use Rattle.exact_predicates.specs.PointSet.{point_at}
 use Rattle.exact_predicates.specs.Triangulation.{IsEmpty}
 
--- the order of edges: by the lesser end, then by the greater
+-- e comes before the edge with the ends a and b: by the lesser end, then by the greater
+abbrev pub IsEdgeBefore : ℕ → ℕ → Edge → Type 0
+IsEdgeBefore a b e = (e.a < a) ⊎ ((e.a ≡ a) × (e.b < b))
+
+-- the order of edges
 abbrev pub EdgePrecedes : Edge → Edge → Type 0
-EdgePrecedes e f = (e.a < f.a) ⊎ ((e.a ≡ f.a) × (e.b < f.b))
+EdgePrecedes e f = IsEdgeBefore f.a f.b e
+
+-- the same, as the type compares them
+abbrev pub edge_cmp : Edge → Edge → Ordering
+edge_cmp e f = ordering_then (nat_cmp e.a f.a) (nat_cmp e.b f.b)
 
 -- the order of triangles: by a, then by b, then by c
 abbrev pub TriPrecedes : Tri → Tri → Type 0

@@ -2,13 +2,14 @@
 use Rattle.std.specs.Prelude.{◌≡◌, ℕ, ◌+◌, Bool, true, not, ◌&&◌, List, [], ◌∷◌, length, filter, Option, Some, None, nat_lt, unsigned_abs, pos, IsPermutation, ◌==◌, if◌then◌else◌}
 use Rattle.std.specs.List.{list_any, list_all}
 use Rattle.std.specs.Ordering.{int_eq}
+use Rattle.mwt_base.specs.Limits.{most_coordinate, most_points}
 use Rattle.exact_predicates.specs.declared.point.Point.{Point}
 use Rattle.exact_predicates.specs.Plane.{orient}
 use Rattle.exact_predicates.specs.PointSet.{PointSet, IsPointSet}
 
--- no coordinate is above 10^9 in size
+-- no coordinate is above the limit in size, as a test
 abbrev pub is_in_range : Point → Bool
-is_in_range p = not (nat_lt 1000000000 (unsigned_abs p.x)) && not (nat_lt 1000000000 (unsigned_abs p.y))
+is_in_range p = not (nat_lt most_coordinate (unsigned_abs p.x)) && not (nat_lt most_coordinate (unsigned_abs p.y))
 
 -- p and q have the same coordinates
 abbrev pub is_same_place : Point → Point → Bool
@@ -29,12 +30,12 @@ abbrev pub is_flat : List Point → Bool
 is_flat ps = list_all (λ p. list_all (λ q. list_all (λ r. int_eq (orient p q r) (pos 0)) ps) ps) ps
 
 -- The code of the first rule, in this order, that a list of points breaks: 4, a point is out of range; 5, two points have
--- one id; 2, more than 10,000 stay; 1, fewer than 3 stay; 3, all that stay lie on one line.
+-- one id; 2, more stay than a problem may have; 1, fewer than 3 stay; 3, all that stay lie on one line.
 unfoldable pub points_code : List Point → Option ℕ
 points_code ps =
     if not (list_all is_in_range ps) then Some 4
     else if not (has_distinct_ids ps) then Some 5
-    else if nat_lt 10000 (length (firsts ps)) then Some 2
+    else if nat_lt most_points (length (firsts ps)) then Some 2
     else if nat_lt (length (firsts ps)) 3 then Some 1
     else if is_flat (firsts ps) then Some 3
     else None

@@ -1,13 +1,14 @@
 -- The exact tests: whole numbers computed of the coordinates of a few points, and what their signs mean.
 use Rattle.std.specs.Prelude.{◌≡◌, ◌⊎◌, ℕ, ◌+◌, ◌^◌, unsigned_abs, ℤ, pos, ◌+ℤ◌, ◌-ℤ◌, ◌*ℤ◌, neg_ℤ, ◌≤ℤ◌, ◌<ℤ◌}
+use Rattle.mwt_base.specs.Limits.{most_coordinate}
 use Rattle.exact_predicates.specs.declared.point.Point.{Point}
 
--- no coordinate is above 10^9 in size
+-- no coordinate is above the limit in size
 pub record IsInRange (p : Point) : Type 0 where
-  pub left : neg_ℤ (pos (10 ^ 9)) ≤ℤ p.x
-  pub right : p.x ≤ℤ pos (10 ^ 9)
-  pub low : neg_ℤ (pos (10 ^ 9)) ≤ℤ p.y
-  pub high : p.y ≤ℤ pos (10 ^ 9)
+  pub left : neg_ℤ (pos most_coordinate) ≤ℤ p.x
+  pub right : p.x ≤ℤ pos most_coordinate
+  pub low : neg_ℤ (pos most_coordinate) ≤ℤ p.y
+  pub high : p.y ≤ℤ pos most_coordinate
 
 -- twice the area of the triangle pqr, positive where it turns to the left
 unfoldable pub orient : Point → Point → Point → ℤ

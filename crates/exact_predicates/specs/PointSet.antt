@@ -1,5 +1,6 @@
 -- The points of a problem.
 use Rattle.std.specs.Prelude.{◌≢◌, ℕ, ◌≤◌, ◌<◌, List, length, All, AllPairs, slice_index_or, pos}
+use Rattle.mwt_base.specs.Limits.{most_points}
 use Rattle.exact_predicates.specs.declared.point.Point.{Point}
 use Rattle.exact_predicates.specs.Plane.{IsInRange, Precedes, orient}
 
@@ -25,7 +26,7 @@ pub record HasTurn (ps : List Point) : Type 0 where
 -- what the points of every problem keep
 pub record IsPointSet (ps : List Point) : Type 0 where
   pub enough : 3 ≤ length ps
-  pub not_more : length ps ≤ 10000
+  pub not_more : length ps ≤ most_points
   pub in_range : All IsInRange ps
   pub distinct_ids : AllPairs (λ p q. p.id ≢ q.id) ps
   pub ascending : AllPairs Precedes ps

@@ -6,6 +6,11 @@ pub record IsRootDown (n r : ℕ) : Type 0 where
   pub fits : r * r ≤ n
   pub greatest : (s : ℕ) → s * s ≤ n → s ≤ r
 
+-- r is the least number whose square is at least n
+pub record IsRootUp (n r : ℕ) : Type 0 where
+  pub covers : n ≤ r * r
+  pub least : (s : ℕ) → n ≤ s * s → r ≤ s
+
 -- the greatest r up to k whose square is at most n
 unfoldable pub root_down_upto : ℕ → ℕ → ℕ
 root_down_upto zero n = 0
@@ -20,7 +25,7 @@ root_up_upto (suc k) n = if nat_le n (k * k) then root_up_upto k n else suc k
 unfoldable pub root_down : ℕ → ℕ
 root_down n = root_down_upto n n
 
--- the root of n, rounded up: the least r with n ≤ r * r, since n ≤ n * n
+-- the root of n, rounded up; the one r with IsRootUp n r, since n ≤ n * n
 unfoldable pub root_up : ℕ → ℕ
 root_up n = root_up_upto n n
 

@@ -5,6 +5,7 @@
 
 mod diamond;
 mod edge;
+mod laws;
 mod lists;
 mod point;
 mod points;
@@ -14,6 +15,7 @@ mod tri;
 
 pub use diamond::Diamond;
 pub use edge::Edge;
+pub use laws::{order_laws, root_laws, triangulation_laws};
 pub use lists::{Edges, Hull, PointList, Tris};
 pub use point::{Point, d2, dot, in_range, orient};
 pub use points::{Points, PointsStop};

@@ -1,5 +1,6 @@
 // A point of the plane, and the exact tests on points.
 ghost use Rattle.std.specs.Prelude.{◌≡◌, ◌↔◌, ◌*◌, ◌^◌, ◌≤◌, ◌*ℤ◌, unsigned_abs, IsTrue};
+ghost use Rattle.exact_predicates.specs.Merging.{is_in_range};
 ghost use Rattle.exact_predicates.specs.Plane.{IsInRange, orient, dot, d2};
 
 /// A point, with the number that it has in its file. Coordinates are in scaled units.
@@ -10,13 +11,15 @@ pub struct Point {
     pub y: i64,
 }
 
-const LIMIT: i64 = 1_000_000_000;
+// The greatest size of a coordinate, which the contract of `in_range` says.
+const MOST_COORDINATE: u64 = 1_000_000_000;
 
 /// Whether no coordinate is above 10^9 in size, as the exact tests need it.
 pub fn in_range(p: &Point) -> bool
-    ensures { IsTrue result ↔ IsInRange p.now }
+    ensures test { result ≡ is_in_range p.now }
+    ensures meaning { IsTrue result ↔ IsInRange p.now }
 {
-    -LIMIT <= p.x && p.x <= LIMIT && -LIMIT <= p.y && p.y <= LIMIT
+    p.x.unsigned_abs() <= MOST_COORDINATE && p.y.unsigned_abs() <= MOST_COORDINATE
 }
 
 /// Twice the area of the triangle `pqr`: positive where it turns to the left, 0 where the three

@@ -8,9 +8,9 @@ use crate::staying::{are_in_range, first_at_each_place, has_distinct_ids, is_fla
 use std::alloc::{AllocError, Global};
 use std::marker::Model;
 
-const FEWEST: usize = 3;
+const FEWEST_POINTS: usize = 3;
 
-const MOST: usize = 10_000;
+const MOST_POINTS: usize = 10_000;
 
 /// From 3 to 10,000 points in range, with distinct ids and distinct coordinates, not all on one
 /// line. They are numbered from 0 in the order of `x` and then `y`.
@@ -74,11 +74,11 @@ fn in_order(alloc: Global, points: &[Point]) -> Result<Vec<Point>, PointsStop>
     if !has_distinct_ids(alloc, points)? {
         return Err(PointsStop::REPEATED_ID);
     }
-    let mut kept = first_at_each_place(alloc, points, MOST)?;
-    if kept.len() > MOST {
+    let mut kept = first_at_each_place(alloc, points, MOST_POINTS)?;
+    if kept.len() > MOST_POINTS {
         return Err(PointsStop::TOO_MANY);
     }
-    if kept.len() < FEWEST {
+    if kept.len() < FEWEST_POINTS {
         return Err(PointsStop::TOO_FEW);
     }
     sort_by_place(&mut kept)?;

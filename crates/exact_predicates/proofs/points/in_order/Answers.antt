@@ -23,13 +23,13 @@ pub returns-then-not-branch-clause-refused : goal.returns-then-not-branch-clause
 returns-then-not-branch-clause-refused c =
     told c.args.points.now 5 (points_code-repeated_id c.args.points.now (sym c.are_in_range.ensures ∙ c.if-not-are_in_range.false) (sym c.in_ok-has_distinct_ids.ensures ∙ c.if-not-branch.true))
 
-pub returns-then-len-gt-MOST-clause-refused : goal.returns-then-len-gt-MOST-clause-refused
-returns-then-len-gt-MOST-clause-refused c =
+pub returns-then-len-gt-MOST_POINTS-clause-refused : goal.returns-then-len-gt-MOST_POINTS-clause-refused
+returns-then-len-gt-MOST_POINTS-clause-refused c =
     told c.args.points.now 2 (points_code-too_many c.args.points.now (sym c.are_in_range.ensures ∙ c.if-not-are_in_range.false) (sym c.in_ok-has_distinct_ids.ensures ∙ c.if-not-branch.false)
     (firsts-many 10000 c.args.points.now c.in_ok-kept.kept.items c.in_ok-kept.ensures (omega arith)))
 
-pub returns-then-len-lt-FEWEST-clause-refused : goal.returns-then-len-lt-FEWEST-clause-refused
-returns-then-len-lt-FEWEST-clause-refused c =
+pub returns-then-len-lt-FEWEST_POINTS-clause-refused : goal.returns-then-len-lt-FEWEST_POINTS-clause-refused
+returns-then-len-lt-FEWEST_POINTS-clause-refused c =
     let all = firsts-few 10000 c.args.points.now c.in_ok-kept.kept.items c.in_ok-kept.ensures (omega arith) in
     told c.args.points.now 1 (points_code-too_few c.args.points.now (sym c.are_in_range.ensures ∙ c.if-not-are_in_range.false) (sym c.in_ok-has_distinct_ids.ensures ∙ c.if-not-branch.false)
     (omega (arith, ap length all)))
