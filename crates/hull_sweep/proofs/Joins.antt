@@ -38,7 +38,7 @@ IsJoin-start s P q c some =
       seen = λ k e l. absurd (omega arith);
       count = omega arith;
       empty = All-nil (IsEmptyBelow P (q + 1));
-      rule = All-nil (JoinsVisiblePair P);
+      rule = All-nil (JoinsVisiblePair P (q + 1));
       joined = λ k l m. absurd (omega arith);
       balance = λ j k u v e d.
           let same : k ≡ j = omega arith in
@@ -59,7 +59,7 @@ IsJoin-more {s = s} {P = P} {q = q} {c = c} a k kept less ts t j e d seen h =
       seen = λ i f l. let same : k ≡ i = omega arith in subst (λ z. turn s (P (slice_index c z)) (P (slice_index c (z + 1))) (P q) <ℤ pos 0) same seen;
       count = omega (arith, j.count, length_push ts t);
       empty = All-push (IsEmptyBelow P (q + 1)) ts t j.empty (new_empty a k t (omega arith) seen h);
-      rule = All-push (JoinsVisiblePair P) ts t j.rule (joins_visible s (earlier a) a.chain k t (omega arith) seen h);
+      rule = All-push (JoinsVisiblePair P (q + 1)) ts t j.rule (joins_visible s (earlier a) a.chain k t (omega arith) seen h);
       joined = λ i l m. ⊎_elim
           (λ b. let same : k ≡ i = omega arith in subst (λ z. Any (HasTriangle s (slice_index c z) (slice_index c (z + 1)) q) (ts ++ t ∷ [])) same (Any-push (HasTriangle s y x q) ts t h))
           (λ b. Any-append_left (HasTriangle s (slice_index c i) (slice_index c (i + 1)) q) ts (t ∷ []) (j.joined i b m))

@@ -28,12 +28,13 @@ corners_high y x q t (a, b, c) = inl (a, b, c)
 
 -- the triangle of q with a visible pair of a chain keeps the rule
 pub joins_visible : (s : Side) {P : ℕ → Point} {q count : ℕ} {f : ℕ → ℕ} → IsOrdered P q → IsChain s P q count f → (k : ℕ) (t : Tri) → k + 1 < count
-    → turn s (P (f k)) (P (f (k + 1))) (P q) <ℤ pos 0 → HasTriangle s (f k) (f (k + 1)) q t → JoinsVisiblePair P t
+    → turn s (P (f k)) (P (f (k + 1))) (P q) <ℤ pos 0 → HasTriangle s (f k) (f (k + 1)) q t → JoinsVisiblePair P (q + 1) t
 joins_visible Lower {q = q} {f = f} ordered chain k t k_in seen h =
     record {
       u = f k;
       v = f (k + 1);
       q = q;
+      known = omega arith;
       corners = corners_low (f k) (f (k + 1)) q t h;
       pair = record {
         u_earlier = chain.known k (omega arith);
@@ -48,6 +49,7 @@ joins_visible Upper {P = P} {q = q} {f = f} ordered chain k t k_in seen h =
       u = f (k + 1);
       v = f k;
       q = q;
+      known = omega arith;
       corners = corners_high (f k) (f (k + 1)) q t h;
       pair = record {
         u_earlier = chain.known (k + 1) k_in;
@@ -57,6 +59,12 @@ joins_visible Upper {P = P} {q = q} {f = f} ordered chain k t k_in seen h =
         visible = seen;
       };
     }
+
+-- one more point is known later
+pub known_later : (P : ℕ → Point) (n : ℕ) (t : Tri) → JoinsVisiblePair P n t → JoinsVisiblePair P (n + 1) t
+known_later P n t j =
+    let known = j.known in
+    record { u = j.u; v = j.v; q = j.q; known = omega arith; corners = j.corners; pair = j.pair }
 
 -- Two points with no point outside their pair or between them.
 pub record IsSidePair (s : Side) (P : ℕ → Point) (q u v : ℕ) : Type 0 where
@@ -134,6 +142,6 @@ module _ {s : Side} {P : ℕ → Point} {q count : ℕ} {f : ℕ → ℕ} (order
 pub FollowsRule-permutation : (P : ℕ → Point) (n : ℕ) (ts us : List Tri) → IsPermutation ts us → FollowsRule P n ts → FollowsRule P n us
 FollowsRule-permutation P n ts us p r =
     record {
-      no_others = All-permutation (JoinsVisiblePair P) ts us p r.no_others;
+      no_others = All-permutation (JoinsVisiblePair P n) ts us p r.no_others;
       joined = λ u v q q_in pair. Any-permutation (λ t. HasCorners t v u q) ts us p (r.joined u v q q_in pair);
     }

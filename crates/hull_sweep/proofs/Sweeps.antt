@@ -3,7 +3,7 @@ use Rattle.std.proofs.Common.{◌≡◌, ℕ, ◌+◌, ◌-◌, ◌<◌, List, �
 use Rattle.std.proofs.lemmas.Int.{ints}
 use Rattle.std.proofs.lemmas.Bool.{cases_lt, cases_order}
 use Rattle.std.proofs.lemmas.List.{length-append}
-use Rattle.std.proofs.lemmas.List.Elements.{Contains-push, All-append}
+use Rattle.std.proofs.lemmas.List.Elements.{Contains-push, All-append, All-weaker}
 use Rattle.exact_predicates.specs.declared.point.Point.{Point}
 use Rattle.exact_predicates.specs.declared.tri.Tri.{Tri}
 use Rattle.exact_predicates.specs.Triangulation.{IsCorner, HasCorners, hit, side_count}
@@ -23,7 +23,7 @@ use Rattle.hull_sweep.proofs.Emptiness.{all_stay_empty}
 use Rattle.hull_sweep.proofs.Joins.{popped}
 use Rattle.hull_sweep.proofs.Outlines.{both_same}
 use Rattle.hull_sweep.proofs.PairCounts.{pair_count-topped}
-use Rattle.hull_sweep.proofs.Rules.{IsSidePair, place_of_side, corners_low, corners_high}
+use Rattle.hull_sweep.proofs.Rules.{IsSidePair, place_of_side, known_later, corners_low, corners_high}
 use Rattle.hull_sweep.proofs.Shapes.{IsStep, shape_step}
 use Rattle.hull_sweep.proofs.Tops.{topped, kept_or_popped, length-topped, IsJoined, kept_hidden, IsChain-topped, IsNewest-topped}
 
@@ -137,7 +137,7 @@ module _ {P : ℕ → Point} {n q : ℕ} {c d : List ℕ} {k l : ℕ} {ts xs ys 
         shape = shape_step a;
         empty = all_three (IsEmptyBelow P (q + 1)) (all_stay_empty P n q ts a.low.ahead.ordered a.low.ahead.q_in w.empty) a.low.join.empty a.high.join.empty;
         rule = record {
-          no_others = all_three (JoinsVisiblePair P) w.rule.no_others a.low.join.rule a.high.join.rule;
+          no_others = all_three (JoinsVisiblePair P (q + 1)) (All-weaker (JoinsVisiblePair P q) (JoinsVisiblePair P (q + 1)) (known_later P q) ts w.rule.no_others) a.low.join.rule a.high.join.rule;
           joined = joined_all;
         };
         count = omega (arith, w.count, a.low.join.count, a.high.join.count, length-append (ts ++ xs) ys, length-append ts xs, length-topped c k q wk, length-topped d l q wl);

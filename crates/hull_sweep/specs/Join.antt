@@ -42,7 +42,7 @@ pub record IsJoin (s : Side) (P : ℕ → Point) (q : ℕ) (c : List ℕ) (kept 
   pub seen : (k : ℕ) → k + 1 ≡ kept → kept < length c → turn s (P (slice_index c k)) (P (slice_index c (k + 1))) (P q) <ℤ pos 0
   pub count : length added + kept ≡ length c
   pub empty : All (IsEmptyBelow P (q + 1)) added
-  pub rule : All (JoinsVisiblePair P) added
+  pub rule : All (JoinsVisiblePair P (q + 1)) added
   pub joined : (k : ℕ) → kept ≤ k + 1 → k + 1 < length c → Any (HasTriangle s (slice_index c k) (slice_index c (k + 1)) q) added
   pub balance : (j k u v : ℕ) → k + 1 ≡ kept → j + 1 ≡ length c
       → side_count added u v + pair_count s (slice_index c) kept v u + pair_count s (slice_index c) (length c) u v + hit v u (along s (slice_index c k) q) + hit u v (along s (slice_index c j) q)

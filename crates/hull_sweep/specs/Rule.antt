@@ -14,15 +14,16 @@ pub record IsVisiblePair (P : ℕ → Point) (u v q : ℕ) : Type 0 where
   pub none_between : (r : ℕ) → r < q → ¬ IsBetween (P u) (P v) (P r)
   pub visible : orient (P u) (P v) (P q) <ℤ pos 0
 
--- t joins a point to a pair that is visible from it
-pub record JoinsVisiblePair (P : ℕ → Point) (t : Tri) : Type 0 where
+-- t joins one of the points below n to a pair that is visible from it
+pub record JoinsVisiblePair (P : ℕ → Point) (n : ℕ) (t : Tri) : Type 0 where
   pub u : ℕ
   pub v : ℕ
   pub q : ℕ
+  pub known : q < n
   pub corners : HasCorners t v u q
   pub pair : IsVisiblePair P u v q
 
 -- of the points below n, each is joined to all pairs that are visible from it, and there are no other triangles
 pub record FollowsRule (P : ℕ → Point) (n : ℕ) (tris : List Tri) : Type 0 where
-  pub no_others : All (JoinsVisiblePair P) tris
+  pub no_others : All (JoinsVisiblePair P n) tris
   pub joined : (u v q : ℕ) → q < n → IsVisiblePair P u v q → Any (λ t. HasCorners t v u q) tris
