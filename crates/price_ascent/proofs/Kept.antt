@@ -4,12 +4,13 @@ use Rattle.exact_predicates.specs.declared.point.Point.{Point}
 use Rattle.lmt_network.specs.Flags.{live_numbers}
 use Rattle.lmt_network.specs.Network.{IsNetwork, NetworkParts, edge_at}
 use Rattle.lmt_network.specs.Numbers.{IsNumberOf}
-use Rattle.lmt_network.specs.PriceTables.{IsByNumber, entry_at}
+use Rattle.lmt_network.specs.PriceTables.{IsByNumber, PriceTable, entry_at}
 use Rattle.lmt_network.specs.Prices.{Priced, is_on_hull, priced, share, weight_between}
 use Rattle.lmt_network.proofs.Picked.{all-from-members, flag_from_live, flag_in, live_from_flag}
 use Rattle.lmt_network.proofs.PriceTables.{by_number_law}
 use Rattle.std.proofs.lemmas.List.{length-map}
 use Rattle.price_ascent.specs.declared.entry.Entry.{Entry}
+use Rattle.price_ascent.specs.Ascent.{value_at}
 use Rattle.price_ascent.specs.Entries.{entry, live_of, no_entry, prices_of, table_of}
 
 -- an element of a mapped list, also past its end
@@ -20,6 +21,16 @@ get_or-mapped f (x ∷ xs) (suc k) d = get_or-mapped f xs k d
 
 pub live_at : (es : List Entry) (e : ℕ) → get_or (live_of es) e false ≡ (entry es e).live
 live_at es e = get_or-mapped (λ p. p.live) es e no_entry
+
+pub value_is : (es : List Entry) (k : ℕ) → value_at (table_of es) k ≡ (entry es k).value
+value_is es k = get_or-mapped (λ (p : Entry). p.value) es k no_entry
+
+-- tables with the same lists
+abbrev pub table : List ℤ → List ℤ → List ℤ → PriceTable
+table values lefts rights = record { values = values; lefts = lefts; rights = rights }
+
+pub same_table : (a b c x y z : List ℤ) → a ≡ x → b ≡ y → c ≡ z → table a b c ≡ table x y z
+same_table a b c x y z e f g = cc
 
 -- the live numbers
 pub live_number : (es : List Entry) (e : ℕ) → (entry es e).live ≡ true → Contains (live_numbers (live_of es)) e

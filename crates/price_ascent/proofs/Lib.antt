@@ -1,3 +1,4 @@
+pub mod Along
 pub mod AnchorSums
 pub mod Anchoring
 pub mod Changed
@@ -8,9 +9,13 @@ pub mod Kept
 pub mod Leasts
 pub mod LiveSides
 pub mod Lowering
+pub mod Mixing
+pub mod OnceEach
 pub mod PriceLists
 pub mod Raised
+pub mod RaisedSides
 pub mod Raising
+pub mod RaisingHull
 pub mod Rises
 pub mod Shares
 pub mod Sides

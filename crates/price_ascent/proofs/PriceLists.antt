@@ -1,6 +1,7 @@
 -- The prices of live edges, as a list.
-use Rattle.std.proofs.Common.{◌≡◌, ◌⊎◌, ℕ, ◌<◌, true, false, List, length, map, All, AllPairs, Contains, pos, ◌≤ℤ◌, sym, ◌∙◌, subst, ⊎_elim, inl, inr}
+use Rattle.std.proofs.Common.{◌≡◌, ◌⊎◌, ℕ, ◌<◌, true, false, List, length, map, All, AllPairs, Contains, pos, ◌≤ℤ◌, sym, ◌∙◌, subst, arith, ⊎_elim, inl, inr}
 use Rattle.std.proofs.lemmas.Bool.{cases_Bool}
+use Rattle.std.proofs.lemmas.Int.{ints}
 use Rattle.std.proofs.lemmas.List.Elements.{All-map}
 use Rattle.exact_predicates.specs.declared.edge.Edge.{Edge}
 use Rattle.exact_predicates.specs.Candidates.{EdgePrecedes}
@@ -10,9 +11,8 @@ use Rattle.lmt_network.specs.PriceTables.{entry_at}
 use Rattle.lmt_network.specs.Prices.{ArePrices, Priced}
 use Rattle.lmt_network.proofs.Picked.{AllPairs-picked, all-from-members, flag_in, flag_from_live, picked_in}
 use Rattle.std.proofs.lemmas.List.{length-map}
-use Rattle.std.proofs.Common.{arith}
 use Rattle.price_ascent.specs.declared.entry.Entry.{Entry}
-use Rattle.price_ascent.specs.Belonging.{BelongTo}
+use Rattle.price_ascent.specs.Belonging.{BelongTo, IsWithinLimits}
 use Rattle.price_ascent.specs.Entries.{anchored_edges, entry, live_of, no_entry, prices_of, table_of}
 use Rattle.price_ascent.proofs.Kept.{entry_at-kept, get_or-mapped, kept_price}
 use Rattle.price_ascent.proofs.LiveSides.{edges-kept}
@@ -42,3 +42,15 @@ are_prices n es b =
           (λ (off : (entry es k).anchored ≡ false). inr ((b.each k k_in).elsewhere off))
           (cases_Bool (entry es k).anchored));
     }
+
+-- the amounts of live edges are within their limits
+pub within_limits : (n : NetworkParts) (es : List Entry) → BelongTo n es → All (IsWithinLimits n.hull) (prices_of n es)
+within_limits n es b =
+    each_price n es (IsWithinLimits n.hull) b.one_each (λ k k_in.
+    let h = b.each k k_in in
+    record {
+      price = λ inner. let p = h.price inner in let low = p.0 in let high = p.1 in (low, omega (arith, ints, high));
+      anchor = h.anchor;
+      left = h.left;
+      right = h.right;
+    })

@@ -12,16 +12,17 @@ use Rattle.lmt_network.specs.Prices.{is_on_hull, slack}
 use Rattle.lmt_network.proofs.Entries.{is_on_hull-comm, is_on_hull_decides}
 use Rattle.lmt_network.proofs.Picked.{contains-cases}
 use Rattle.price_ascent.specs.declared.entry.Entry.{Entry}
-use Rattle.price_ascent.specs.Ascent.{IsLeastSlack, IsLiveOn, IsRaised, IsRaisedAlong, with_more}
+use Rattle.price_ascent.specs.Ascent.{IsLeastSlack, IsLiveOn}
 use Rattle.price_ascent.specs.Belonging.{BelongTo}
 use Rattle.price_ascent.specs.Entries.{entry, live_of, no_entry, prices_of, table_of}
-use Rattle.price_ascent.specs.Raised.{AreRaised, IsSettled}
+use Rattle.price_ascent.specs.Raised.{AreRaised, IsRaisedAlong, IsRaisedNext, IsSettled, with_more}
 use Rattle.price_ascent.specs.Steps.{IsRaisedEntry, hull_raised, left_raised, right_raised}
 use Rattle.price_ascent.proofs.Changed.{IsChange, hull_of, live_same, new_entry, other_entry, same_field}
 use Rattle.price_ascent.proofs.Kept.{get_or-mapped}
 use Rattle.price_ascent.proofs.LiveSides.{same_live}
 use Rattle.price_ascent.proofs.Lowering.{inner_off}
-use Rattle.price_ascent.proofs.Raising.{hull_rise, left_rise, right_rise}
+use Rattle.price_ascent.proofs.Raising.{left_rise, right_rise}
+use Rattle.price_ascent.proofs.RaisingHull.{hull_rise}
 use Rattle.price_ascent.proofs.Rises.{AreRisen, risen}
 use Rattle.price_ascent.proofs.SlackBounds.{least_fits}
 
@@ -35,7 +36,7 @@ pub record IsOneRaised (n : NetworkParts) (fs gs : List Entry) (u v : ℕ) : Typ
   pub anchors : (e : ℕ) → (entry fs e).value ≤ℤ (entry gs e).value
   pub lefts : (e : ℕ) → (entry fs e).left ≤ℤ (entry gs e).left
   pub rights : (e : ℕ) → (entry fs e).right ≤ℤ (entry gs e).right
-  pub raised : IsRaised n (live_of fs) (table_of fs) (table_of gs) u v
+  pub raised : IsRaisedNext n (live_of fs) (table_of fs) (table_of gs) u v
   pub m : ℤ
   pub least : IsLeastSlack n.points n.hull (prices_of n fs) u v m
   pub risen : AreRisen n fs gs u v m
@@ -98,7 +99,7 @@ more_raised n es fs gs sides rest u v h r =
       anchors = λ e hull. let a = h.anchors e hull in let b = r.anchors e in omega (arith, ints, a, b);
       lefts = λ e. let a = h.lefts e in let b = r.lefts e in omega (arith, ints, a, b);
       rights = λ e. let a = h.rights e in let b = r.rights e in omega (arith, ints, a, b);
-      along = λ end rest_is. h.along end (table_of gs, subst (λ (live : List Bool). IsRaised n live (table_of fs) (table_of gs) u v) h.live r.raised, rest_is);
+      along = λ end rest_is. h.along end (table_of gs, subst (λ (live : List Bool). IsRaisedNext n live (table_of fs) (table_of gs) u v) h.live r.raised, rest_is);
       keeps = λ p q s. keeps_settled n fs gs u v p q r (h.keeps p q s);
       settled = λ p q has. ⊎_elim
           (λ left. ⊎_elim
@@ -113,139 +114,3 @@ more_raised n es fs gs sides rest u v h r =
 pub along-append : (n : NetworkParts) (live : List Bool) (xs ys : List (ℕ × ℕ)) (a b c : PriceTable) → IsRaisedAlong n live xs a b → IsRaisedAlong n live ys b c → IsRaisedAlong n live (xs ++ ys) a c
 along-append n live [] ys a b c h k = subst (λ (t : PriceTable). IsRaisedAlong n live ys t c) h k
 along-append n live (x ∷ xs) ys a b c (next, first, rest) k = (next, first, along-append n live xs ys next b c rest k)
-
--- a field of all entries, where it stays and where it grows
-field_same : (n : NetworkParts) (fs gs : List Entry) (e : ℕ) (x : Entry) (f : Entry → ℤ) (k : ℕ) → IsChange n fs gs e x → f x ≡ f (entry fs e) → f (entry gs k) ≡ f (entry fs k)
-field_same n fs gs e x f k c same =
-    ⊎_elim
-    (λ (is : k ≡ e). subst (λ (i : ℕ). f (entry gs i) ≡ f (entry fs i)) (sym is) (ap f (new_entry n fs gs e x c) ∙ same))
-    (λ (away : k ≢ e). ap f (other_entry n fs gs e x k c away))
-    (cases_eq k e)
-
-field_more : (n : NetworkParts) (fs gs : List Entry) (e : ℕ) (x : Entry) (f : Entry → ℤ) (k : ℕ) → IsChange n fs gs e x → f (entry fs e) ≤ℤ f x → f (entry fs k) ≤ℤ f (entry gs k)
-field_more n fs gs e x f k c more =
-    ⊎_elim
-    (λ (is : k ≡ e). subst (λ (i : ℕ). f (entry fs i) ≤ℤ f (entry gs i)) (sym is) (let same = ap f (new_entry n fs gs e x c) in omega (arith, ints, same, more)))
-    (λ (away : k ≢ e). let same = ap f (other_entry n fs gs e x k c away) in omega (arith, ints, same))
-    (cases_eq k e)
-
-abbrev pub table : List ℤ → List ℤ → List ℤ → PriceTable
-table values lefts rights = record { values = values; lefts = lefts; rights = rights }
-
-pub same_table : (a b c x y z : List ℤ) → a ≡ x → b ≡ y → c ≡ z → table a b c ≡ table x y z
-same_table a b c x y z e f g = cc
-
--- the list of a field with more at one place
-field_list : (fs : List Entry) (e : ℕ) (x : Entry) (m : ℤ) (f : Entry → ℤ) → f no_entry ≡ pos 0 → f x ≡ f (entry fs e) +ℤ m → map f (set fs e x) ≡ with_more (map f fs) e m
-field_list fs e x m f none is =
-    let at : get_or (map f fs) e (pos 0) ≡ f (entry fs e) = subst (λ (z : ℤ). get_or (map f fs) e z ≡ f (entry fs e)) none (get_or-mapped f fs e no_entry) in
-    map-set f fs e x ∙ ap (set (map f fs) e) (is ∙ ap (λ z. z +ℤ m) (sym at))
-
-pub field_kept : (fs : List Entry) (e : ℕ) (x : Entry) (f : Entry → ℤ) → f x ≡ f (entry fs e) → map f (set fs e x) ≡ map f fs
-field_kept fs e x f is = same_field f fs e x (f no_entry) (get_or-mapped f fs e no_entry ∙ sym is)
-
-anchored-kept : (fs gs : List Entry) (e : ℕ) (x : Entry) → gs ≡ set fs e x → x.anchored ≡ (entry fs e).anchored → map (λ p. p.anchored) gs ≡ map (λ p. p.anchored) fs
-anchored-kept fs gs e x gs_is is =
-    ap (map (λ p. p.anchored)) gs_is ∙ same_field (λ p. p.anchored) fs e x false (get_or-mapped (λ (p : Entry). p.anchored) fs e no_entry ∙ sym is)
-
--- a raised left side
-pub left-raised : (n : NetworkParts) (fs gs : List Entry) (e : ℕ) → BelongTo n fs → BelongTo n gs → e < length n.edges → (entry fs e).anchored ≡ true
-    → IsRaisedEntry n fs gs e (edge_at n e).a (edge_at n e).b left_raised → IsOneRaised n fs gs (edge_at n e).a (edge_at n e).b
-left-raised n fs gs e b after e_in anchored r =
-    let p = entry fs e in
-    let x = left_raised p r.m in
-    let inner = (b.each e e_in).inner anchored in
-    let c : IsChange n fs gs e x = record { belong = b; e_in = e_in; is = r.entry_is; live = refl } in
-    let rise = left_rise n fs gs e r.m c inner.0 inner.1 r.least in
-    let some = (least_fits n fs (edge_at n e).a (edge_at n e).b r.m b r.least).0 in
-    record {
-      before = b;
-      belong = after;
-      live = live_same n fs gs e x c;
-      anchored = anchored-kept fs gs e x r.entry_is refl;
-      prices = λ k out. field_same n fs gs e x (λ q. q.value) k c refl;
-      anchors = λ k. field_more n fs gs e x (λ q. q.value) k c (omega (arith, ints));
-      lefts = λ k. field_more n fs gs e x (λ q. q.left) k c (omega (arith, ints, some));
-      rights = λ k. field_more n fs gs e x (λ q. q.right) k c (omega (arith, ints));
-      raised = record {
-        e = e;
-        number = rise.number;
-        m = r.m;
-        least = r.least;
-        new_is = ap table_of r.entry_is
-            ∙ (same_table _ _ _ _ _ _ (field_kept fs e x (λ q. q.value) refl) (field_list fs e x r.m (λ q. q.left) refl refl) (field_kept fs e x (λ q. q.right) refl)
-            ∙ sym (cond-false (is_on_hull n.hull (edge_at n e).a (edge_at n e).b) _ _ (inner_off n e inner.1) ∙ cond-true _ _ _ (lt-ltb (edge_at n e).a (edge_at n e).b (edge_at n e).ascending)));
-      };
-      m = r.m;
-      least = r.least;
-      risen = risen n fs gs e (edge_at n e).a (edge_at n e).b r.m x rise;
-    }
-
--- a raised right side
-pub right-raised : (n : NetworkParts) (fs gs : List Entry) (e : ℕ) → BelongTo n fs → BelongTo n gs → e < length n.edges → (entry fs e).anchored ≡ true
-    → IsRaisedEntry n fs gs e (edge_at n e).b (edge_at n e).a right_raised → IsOneRaised n fs gs (edge_at n e).b (edge_at n e).a
-right-raised n fs gs e b after e_in anchored r =
-    let p = entry fs e in
-    let x = right_raised p r.m in
-    let inner = (b.each e e_in).inner anchored in
-    let c : IsChange n fs gs e x = record { belong = b; e_in = e_in; is = r.entry_is; live = refl } in
-    let rise = right_rise n fs gs e r.m c inner.0 inner.1 r.least in
-    let some = (least_fits n fs (edge_at n e).b (edge_at n e).a r.m b r.least).0 in
-    let up = (edge_at n e).ascending in
-    record {
-      before = b;
-      belong = after;
-      live = live_same n fs gs e x c;
-      anchored = anchored-kept fs gs e x r.entry_is refl;
-      prices = λ k out. field_same n fs gs e x (λ q. q.value) k c refl;
-      anchors = λ k. field_more n fs gs e x (λ q. q.value) k c (omega (arith, ints));
-      lefts = λ k. field_more n fs gs e x (λ q. q.left) k c (omega (arith, ints));
-      rights = λ k. field_more n fs gs e x (λ q. q.right) k c (omega (arith, ints, some));
-      raised = record {
-        e = e;
-        number = rise.number;
-        m = r.m;
-        least = r.least;
-        new_is = ap table_of r.entry_is
-            ∙ (same_table _ _ _ _ _ _ (field_kept fs e x (λ q. q.value) refl) (field_kept fs e x (λ q. q.left) refl) (field_list fs e x r.m (λ q. q.right) refl refl)
-            ∙ sym (cond-false (is_on_hull n.hull (edge_at n e).b (edge_at n e).a) _ _ (is_on_hull-comm n.hull (edge_at n e).a (edge_at n e).b ∙ inner_off n e inner.1)
-            ∙ cond-false _ _ _ (le-ltb (edge_at n e).b (edge_at n e).a (omega arith))));
-      };
-      m = r.m;
-      least = r.least;
-      risen = risen n fs gs e (edge_at n e).b (edge_at n e).a r.m x rise;
-    }
-
--- a raised pair of the hull
-pub hull-raised : (n : NetworkParts) (fs gs : List Entry) (e u v : ℕ) → BelongTo n fs → BelongTo n gs → IsNumberOf n u v e → IsHullPair n.hull u v
-    → IsRaisedEntry n fs gs e u v hull_raised → IsOneRaised n fs gs u v
-hull-raised n fs gs e u v b after is pair r =
-    let p = entry fs e in
-    let x = hull_raised p r.m in
-    let hull = hull_of n e u v is pair in
-    let live = (b.each e is.0).hull_live hull in
-    let c : IsChange n fs gs e x = record { belong = b; e_in = is.0; is = r.entry_is; live = refl } in
-    let rise = hull_rise n fs gs e u v r.m c live is pair r.least in
-    let some = (least_fits n fs u v r.m b r.least).0 in
-    record {
-      before = b;
-      belong = after;
-      live = live_same n fs gs e x c;
-      anchored = anchored-kept fs gs e x r.entry_is refl;
-      prices = λ k out. ap (λ (q : Entry). q.value) (other_entry n fs gs e x k c (λ same. out (subst (IsHullNumber n) (sym same) hull)));
-      anchors = λ k. field_more n fs gs e x (λ q. q.value) k c (omega (arith, ints, some));
-      lefts = λ k. field_more n fs gs e x (λ q. q.left) k c (omega (arith, ints));
-      rights = λ k. field_more n fs gs e x (λ q. q.right) k c (omega (arith, ints));
-      raised = record {
-        e = e;
-        number = is;
-        m = r.m;
-        least = r.least;
-        new_is = ap table_of r.entry_is
-            ∙ (same_table _ _ _ _ _ _ (field_list fs e x r.m (λ q. q.value) refl refl) (field_kept fs e x (λ q. q.left) refl) (field_kept fs e x (λ q. q.right) refl)
-            ∙ sym (cond-true (is_on_hull n.hull u v) _ _ ((is_on_hull_decides n.hull u v).1 (inl pair))));
-      };
-      m = r.m;
-      least = r.least;
-      risen = risen n fs gs e u v r.m x rise;
-    }

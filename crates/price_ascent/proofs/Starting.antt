@@ -18,7 +18,7 @@ use Rattle.price_ascent.proofs.Changed.{hull_of, which_side}
 use Rattle.price_ascent.proofs.Kept.{get_or-mapped, live_at}
 use Rattle.price_ascent.proofs.LiveSides.{side_number}
 use Rattle.price_ascent.proofs.Lowering.{inner_off}
-use Rattle.price_ascent.proofs.Raising.{hull_on}
+use Rattle.price_ascent.proofs.RaisingHull.{hull_on}
 use Rattle.price_ascent.proofs.Shares.{has_shares, on_hull, weight_of}
 
 -- What is kept at the start.

@@ -14,7 +14,7 @@ use Rattle.price_ascent.specs.Belonging.{BelongTo}
 use Rattle.price_ascent.specs.Entries.{entry, live_of, no_entry, table_of}
 use Rattle.price_ascent.specs.Steps.{IsLowered, lowered}
 use Rattle.price_ascent.proofs.Changed.{IsChange, live_same, new_entry, other_entry, same_field}
-use Rattle.price_ascent.proofs.Kept.{get_or-mapped, live_at}
+use Rattle.price_ascent.proofs.Kept.{get_or-mapped, live_at, same_table, value_is}
 use Rattle.price_ascent.proofs.Lowering.{IsFall, fall_is}
 
 -- Of the edges, the first i have been swept, from es to fs.
@@ -70,12 +70,6 @@ rest_at fs es i same =
     let zero : i + 0 ≡ i = omega arith in
     ap (entry fs) (sym zero) ∙ (sym (get_or-drop i fs 0 no_entry) ∙ (ap (λ gs. get_or gs 0 no_entry) same ∙ (get_or-drop i es 0 no_entry ∙ ap (entry es) zero)))
 
-abbrev table : List ℤ → List ℤ → List ℤ → PriceTable
-table values lefts rights = record { values = values; lefts = lefts; rights = rights }
-
-same_table : (a b c x y z : List ℤ) → a ≡ x → b ≡ y → c ≡ z → table a b c ≡ table x y z
-same_table a b c x y z e f g = cc
-
 -- before the edge i is swept, the mixed table is the present one
 mixed-now : (n : NetworkParts) (es fs gs : List Entry) (i : ℕ) (x : Entry) → AreSwept n es fs i → gs ≡ set fs i x → mixed i (table_of gs) (table_of es) ≡ table_of fs
 mixed-now n es fs gs i x h is =
@@ -92,9 +86,6 @@ mixed-kept n es fs gs i k x is l =
     let value = λ (p : Entry). p.value in
     let front : take k (map value gs) ≡ take k (map value fs) = ap (λ xs. take k (map value xs)) is ∙ (ap (take k) (map-set value fs i x) ∙ take-set-le k (map value fs) i x.value l) in
     same_table _ _ _ _ _ _ (ap (λ xs. xs ++ drop k (map value es)) front) refl refl
-
-pub value_is : (es : List Entry) (k : ℕ) → value_at (table_of es) k ≡ (entry es k).value
-value_is es k = get_or-mapped (λ (p : Entry). p.value) es k no_entry
 
 -- the edge that is swept now
 swept_now : (n : NetworkParts) (es fs gs : List Entry) (i : ℕ) (r : IsLowered n fs gs i) → AreSwept n es fs i → IsChange n fs gs i (lowered (entry fs i) r.m) → IsSwept n (live_of es) (table_of es) (table_of gs) i

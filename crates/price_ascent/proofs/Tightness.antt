@@ -1,21 +1,26 @@
 -- After all sides have been raised the prices are tight.
 use Rattle.std.proofs.Common.{◌≡◌, ℕ, ◌<◌, Bool, true, List, [], ◌∷◌, length, map, flat_map, Contains, ℤ, pos, refl, ap, sym, ◌∙◌, subst, ⊎_elim, inl, inr}
-use Rattle.std.proofs.lemmas.List.{get_or_default}
+use Rattle.std.proofs.lemmas.List.{get_or_default, length-map}
 use Rattle.exact_predicates.specs.declared.edge.Edge.{Edge}
+use Rattle.exact_predicates.specs.Candidates.{EdgePrecedes}
 use Rattle.exact_predicates.specs.Hull.{IsHullPair, ring_pairs}
 use Rattle.exact_predicates.proofs.Equalities.{Joins-ends}
 use Rattle.lmt_network.specs.Flags.{live_edges}
+use Rattle.lmt_network.specs.Live.{IsHullEdge}
 use Rattle.lmt_network.specs.Network.{NetworkParts, edge_at}
 use Rattle.lmt_network.specs.Prices.{IsTight, IsTightSide, Priced, priced}
-use Rattle.lmt_network.proofs.Picked.{contains-cases, contains-here, contains-later, contains-nil, picked_from}
+use Rattle.lmt_network.proofs.Picked.{AllPairs-picked, contains-cases, contains-here, contains-later, contains-nil, picked_from}
 use Rattle.price_ascent.specs.declared.entry.Entry.{Entry}
-use Rattle.price_ascent.specs.Ascent.{IsRaisedAlong, IsTighten, both_sides}
+use Rattle.price_ascent.specs.Ascent.{IsTighten, both_sides}
 use Rattle.price_ascent.specs.Belonging.{BelongTo, IsBareSide}
 use Rattle.price_ascent.specs.Entries.{anchored_edges, entry, live_of, no_entry, prices_of, table_of}
-use Rattle.price_ascent.specs.Raised.{AreRaised, IsSettled}
+use Rattle.price_ascent.specs.Raised.{AreRaised, IsRaisedAlong, IsSettled}
+use Rattle.price_ascent.proofs.Along.{IsFull}
 use Rattle.price_ascent.proofs.Changed.{hull_of}
 use Rattle.price_ascent.proofs.Ends.{hull_number_there}
 use Rattle.price_ascent.proofs.Kept.{get_or-mapped, priced-kept}
+use Rattle.price_ascent.proofs.Mixing.{along-tightens}
+use Rattle.price_ascent.proofs.OnceEach.{AreOffHull}
 use Rattle.price_ascent.proofs.Raised.{along-append}
 
 -- all sides of the hull, and then all inner ones
@@ -24,15 +29,38 @@ pub record AreTightened (n : NetworkParts) (es fs gs : List Entry) : Type 0 wher
   pub hull : AreRaised n es fs (ring_pairs n.hull) []
   pub inner : AreRaised n fs gs (flat_map both_sides (anchored_edges n fs)) []
 
+-- the number of an anchored edge
+pub anchored-number : (n : NetworkParts) (es : List Entry) (e : Edge) → Contains (anchored_edges n es) e → (k : ℕ) × (k < length n.edges) × (edge_at n k ≡ e) × ((entry es k).anchored ≡ true)
+anchored-number n es e has =
+    let r = picked_from (map (λ p. p.anchored) es) n.edges e has in
+    (r.0, r.1, get_or_default n.edges r.0 _ e r.1 ∙ r.3, sym (get_or-mapped (λ (p : Entry). p.anchored) es r.0 no_entry) ∙ r.2)
+
+-- the table of prices that belong to a network has an entry an edge
+pub full_table : (n : NetworkParts) (es : List Entry) → BelongTo n es → IsFull n (table_of es)
+full_table n es b =
+    record {
+      values = length-map es (λ (p : Entry). p.value) ∙ b.one_each;
+      lefts = length-map es (λ (p : Entry). p.left) ∙ b.one_each;
+      rights = length-map es (λ (p : Entry). p.right) ∙ b.one_each;
+    }
+
+-- the anchored edges are off the hull
+off_hull : (n : NetworkParts) (es : List Entry) → BelongTo n es → AreOffHull n.hull (anchored_edges n es)
+off_hull n es b f has hull =
+    let k = anchored-number n es f has in
+    ((b.each k.0 k.1).inner k.3).1 (subst (IsHullEdge n.hull) (sym k.2) hull)
+
 -- the sides are raised in their order
 pub tightened : (n : NetworkParts) (es fs gs : List Entry) → AreTightened n es fs gs → IsTighten n (live_of es) (anchored_edges n es) (table_of es) (table_of gs)
 tightened n es fs gs r =
     let first = r.hull.along (table_of fs) refl in
     let second = r.inner.along (table_of gs) refl in
     let same : anchored_edges n fs ≡ anchored_edges n es = ap (live_edges n) r.hull.anchored in
-    along-append n (live_of es) (ring_pairs n.hull) (flat_map both_sides (anchored_edges n es)) (table_of es) (table_of fs) (table_of gs) first
+    along-tightens n (live_of es) (anchored_edges n es) (table_of es) (table_of gs) r.belong.network (full_table n es r.belong)
+    (AllPairs-picked EdgePrecedes (map (λ p. p.anchored) es) n.edges r.belong.network.ascending) (off_hull n es r.belong)
+    (along-append n (live_of es) (ring_pairs n.hull) (flat_map both_sides (anchored_edges n es)) (table_of es) (table_of fs) (table_of gs) first
     (subst (λ (xs : List Edge). IsRaisedAlong n (live_of es) (flat_map both_sides xs) (table_of fs) (table_of gs)) same
-    (subst (λ (bs : List Bool). IsRaisedAlong n bs (flat_map both_sides (anchored_edges n fs)) (table_of fs) (table_of gs)) r.hull.live second))
+    (subst (λ (bs : List Bool). IsRaisedAlong n bs (flat_map both_sides (anchored_edges n fs)) (table_of fs) (table_of gs)) r.hull.live second)))
 
 -- a settled side whose anchor is 0 where no live triangle is on it
 tight_side : (n : NetworkParts) (es : List Entry) (u v : ℕ) (y : ℤ) → IsSettled n es u v → (IsBareSide n.points (prices_of n es) u v → y ≡ pos 0)
@@ -59,12 +87,6 @@ right_among (x ∷ xs) e h =
     (contains-later (x.a, x.b) (x.b, x.a) ((x.b, x.a) ∷ rest) (contains-here (x.b, x.a) rest)))
     (λ (later : Contains xs e). contains-later (x.a, x.b) (e.b, e.a) ((x.b, x.a) ∷ rest) (contains-later (x.b, x.a) (e.b, e.a) rest (right_among xs e later)))
     (contains-cases x e xs h)
-
--- the number of an anchored edge
-pub anchored-number : (n : NetworkParts) (es : List Entry) (e : Edge) → Contains (anchored_edges n es) e → (k : ℕ) × (k < length n.edges) × (edge_at n k ≡ e) × ((entry es k).anchored ≡ true)
-anchored-number n es e has =
-    let r = picked_from (map (λ p. p.anchored) es) n.edges e has in
-    (r.0, r.1, get_or_default n.edges r.0 _ e r.1 ∙ r.3, sym (get_or-mapped (λ (p : Entry). p.anchored) es r.0 no_entry) ∙ r.2)
 
 -- the anchors of an anchored edge
 left_zero : (n : NetworkParts) (es : List Entry) (k : ℕ) → BelongTo n es → k < length n.edges → (entry es k).anchored ≡ true

@@ -1,11 +1,14 @@
 -- How prices rise to a good bound: they start at half of each weight, sweeps move slack from the right side of each edge to
 -- its left, and at the end the anchors take what slack is left.
-use Rattle.std.specs.Prelude.{◌≡◌, ◌⊎◌, ℕ, zero, suc, ◌*◌, ◌/◌, ◌^◌, ◌<◌, cond, nat_lt, Bool, true, false, List, [], ◌∷◌, ◌++◌, length, take, drop, flat_map, replicate, slice_index_or, slice_set, ℤ, pos, neg_ℤ, ◌+ℤ◌, ◌-ℤ◌, ◌≤ℤ◌}
+use Rattle.std.specs.Prelude.{◌≡◌, ◌⊎◌, ℕ, zero, suc, ◌/◌, ◌<◌, ◌||◌, not, cond, nat_lt, Bool, true, false, List, [], ◌∷◌, ◌++◌, length, map, filter, take, drop, flat_map, replicate, slice_index_or, Contains, ℤ, pos, neg_ℤ, ◌+ℤ◌, ◌-ℤ◌, ◌≤ℤ◌}
+use Rattle.std.specs.List.{list_any}
 use Rattle.std.specs.Int.{int_max}
+use Rattle.mwt_base.specs.Limits.{most_price}
 use Rattle.exact_predicates.specs.declared.edge.Edge.{Edge}
 use Rattle.exact_predicates.specs.declared.point.Point.{Point}
 use Rattle.exact_predicates.specs.declared.tri.Tri.{Tri}
 use Rattle.exact_predicates.specs.Hull.{ring_pairs}
+use Rattle.exact_predicates.specs.Triangulation.{is_side}
 use Rattle.length_enclosure.specs.Enclosure.{weight}
 use Rattle.lmt_network.specs.Flags.{live_numbers}
 use Rattle.lmt_network.specs.Network.{NetworkParts, edge_at}
@@ -28,6 +31,13 @@ IsLeastSlack ps hull prices u v m =
 abbrev pub value_at : PriceTable → ℕ → ℤ
 value_at table e = slice_index_or table.values e (pos 0)
 
+-- the anchors of its left side and of its right side
+abbrev pub left_at : PriceTable → ℕ → ℤ
+left_at table e = slice_index_or table.lefts e (pos 0)
+
+abbrev pub right_at : PriceTable → ℕ → ℤ
+right_at table e = slice_index_or table.rights e (pos 0)
+
 -- the edge e is live and is no edge of the hull
 abbrev pub IsInner : NetworkParts → List Bool → ℕ → Type 0
 IsInner n live e = (slice_index_or live e false ≡ true) × (¬ IsHullNumber n e)
@@ -42,7 +52,7 @@ pub record IsStart (n : NetworkParts) (live : List Bool) (table : PriceTable) : 
 
 -- no sweep makes a price less than this
 abbrev pub lowest : ℤ
-lowest = neg_ℤ (pos (4 * 10 ^ 17))
+lowest = neg_ℤ (pos most_price)
 
 -- the values new of the edges before e, and the values old of the others
 abbrev pub mixed : ℕ → PriceTable → PriceTable → PriceTable
@@ -63,31 +73,9 @@ pub record IsSweep (n : NetworkParts) (live : List Bool) (old new : PriceTable) 
   pub lefts : new.lefts ≡ old.lefts
   pub rights : new.rights ≡ old.rights
 
--- the list with m more at the place e
-abbrev pub with_more : List ℤ → ℕ → ℤ → List ℤ
-with_more xs e m = slice_set xs e (slice_index_or xs e (pos 0) +ℤ m)
-
--- the table in which the anchor of the side u to v of the edge e is m more
-abbrev pub raised : NetworkParts → PriceTable → ℕ → ℕ → ℕ → ℤ → PriceTable
-raised n table e u v m =
-    cond (is_on_hull n.hull u v)
-    (record { values = with_more table.values e m; lefts = table.lefts; rights = table.rights })
-    (cond (nat_lt u v)
-    (record { values = table.values; lefts = with_more table.lefts e m; rights = table.rights })
-    (record { values = table.values; lefts = table.lefts; rights = with_more table.rights e m }))
-
--- the anchor of the side u to v is raised by the least slack of the live triangles with this side
-pub record IsRaised (n : NetworkParts) (live : List Bool) (old new : PriceTable) (u v : ℕ) : Type 0 where
-  pub e : ℕ
-  pub number : IsNumberOf n u v e
-  pub m : ℤ
-  pub least : IsLeastSlack n.points n.hull (table_prices n old (live_numbers live)) u v m
-  pub new_is : new ≡ raised n old e u v m
-
--- the anchors of these sides are raised one after the other, each under those that are raised already
-abbrev pub IsRaisedAlong : NetworkParts → List Bool → List (ℕ × ℕ) → PriceTable → PriceTable → Type 0
-IsRaisedAlong n live [] old new = new ≡ old
-IsRaisedAlong n live (s ∷ sides) old new = (next : PriceTable) × IsRaised n live old next s.0 s.1 × IsRaisedAlong n live sides next new
+-- the edges of a list that are not on the hull
+abbrev pub inner_edges : List ℕ → List Edge → List Edge
+inner_edges hull es = filter (λ e. not (is_on_hull hull e.a e.b)) es
 
 -- the two sides of an edge: first the one from its lesser end to its greater
 abbrev pub both_sides : Edge → List (ℕ × ℕ)
@@ -97,9 +85,43 @@ both_sides e = (e.a, e.b) ∷ (e.b, e.a) ∷ []
 abbrev pub anchored_sides : List ℕ → List Edge → List (ℕ × ℕ)
 anchored_sides hull anchored = ring_pairs hull ++ flat_map both_sides anchored
 
--- Tighten: the anchor of each side that has one is raised, in this order, and all prices stay.
-abbrev pub IsTighten : NetworkParts → List Bool → List Edge → PriceTable → PriceTable → Type 0
-IsTighten n live anchored old new = IsRaisedAlong n live (anchored_sides n.hull anchored) old new
+-- the anchor of the side u to v of the edge e
+abbrev pub anchor_at : NetworkParts → PriceTable → ℕ → ℕ → ℕ → ℤ
+anchor_at n table e u v = cond (is_on_hull n.hull u v) (value_at table e) (cond (nat_lt u v) (left_at table e) (right_at table e))
+
+-- whether the side u to v is among these
+abbrev pub is_among : List (ℕ × ℕ) → ℕ → ℕ → Bool
+is_among sides u v = list_any (is_side u v) sides
+
+-- what the edge e has where the anchors of these sides are new, and all other anchors old
+abbrev pub mixed_entry : NetworkParts → List (ℕ × ℕ) → PriceTable → PriceTable → ℕ → Priced
+mixed_entry n sides new old e =
+    let a = (edge_at n e).a in
+    let b = (edge_at n e).b in
+    record {
+      edge = edge_at n e;
+      value = cond (is_among sides a b || is_among sides b a) (value_at new e) (value_at old e);
+      left = cond (is_among sides a b) (left_at new e) (left_at old e);
+      right = cond (is_among sides b a) (right_at new e) (right_at old e);
+    }
+
+-- The anchor of the side u to v rises by the least slack of the live triangles with this side, under the new anchors of the
+-- sides before it and the old ones of the others.
+pub record IsRaised (n : NetworkParts) (live : List Bool) (old new : PriceTable) (before : List (ℕ × ℕ)) (u v : ℕ) : Type 0 where
+  pub e : ℕ
+  pub number : IsNumberOf n u v e
+  pub m : ℤ
+  pub least : IsLeastSlack n.points n.hull (map (mixed_entry n before new old) (live_numbers live)) u v m
+  pub anchor : anchor_at n new e u v ≡ anchor_at n old e u v +ℤ m
+
+-- Tighten, from old anchors to new ones: that of each side that has one rises so, and all prices stay.
+pub record IsTighten (n : NetworkParts) (live : List Bool) (anchored : List Edge) (old new : PriceTable) : Type 0 where
+  pub one_each : length new.values ≡ length old.values
+  pub sides : (before after : List (ℕ × ℕ)) (u v : ℕ) → anchored_sides n.hull anchored ≡ before ++ (u, v) ∷ after
+      → IsRaised n live old new before u v
+  pub prices : (e : ℕ) → e < length n.edges → ¬ IsHullNumber n e → value_at new e ≡ value_at old e
+  pub lefts : (e : ℕ) → e < length n.edges → ¬ Contains anchored (edge_at n e) → left_at new e ≡ left_at old e
+  pub rights : (e : ℕ) → e < length n.edges → ¬ Contains anchored (edge_at n e) → right_at new e ≡ right_at old e
 
 -- so many sweeps one after the other
 abbrev pub AreSweeps : NetworkParts → List Bool → ℕ → PriceTable → PriceTable → Type 0

@@ -1,9 +1,11 @@
 -- Prices that belong to a network: they are in their ranges, feasible, and no side without a live triangle has an anchor.
-use Rattle.std.specs.Prelude.{◌≡◌, ℕ, ◌*◌, ◌^◌, ◌<◌, true, false, List, length, ℤ, pos, ◌≤ℤ◌, ◌<ℤ◌}
+use Rattle.std.specs.Prelude.{◌≡◌, ℕ, ◌*◌, ◌^◌, ◌<◌, true, false, List, length, ℤ, pos, neg_ℤ, ◌≤ℤ◌, ◌<ℤ◌}
+use Rattle.mwt_base.specs.Limits.{most_anchor, most_price}
 use Rattle.exact_predicates.specs.declared.point.Point.{Point}
 use Rattle.exact_predicates.specs.declared.tri.Tri.{Tri}
 use Rattle.exact_predicates.specs.Hull.{IsHullPair}
 use Rattle.length_enclosure.specs.Enclosure.{weight}
+use Rattle.lmt_network.specs.Live.{IsHullEdge}
 use Rattle.lmt_network.specs.Network.{IsNetwork, NetworkParts, edge_at}
 use Rattle.lmt_network.specs.Numbers.{IsHullNumber, IsNumberOf}
 use Rattle.lmt_network.specs.Prices.{IsFeasible, Priced, share}
@@ -17,7 +19,14 @@ IsPrice p = (lowest ≤ℤ p) × (p ≤ℤ pos (15 * 10 ^ 14))
 
 -- an anchor
 abbrev pub IsAnchor : ℤ → Type 0
-IsAnchor y = (pos 0 ≤ℤ y) × (y <ℤ pos (10 ^ 18))
+IsAnchor y = (pos 0 ≤ℤ y) × (y <ℤ pos most_anchor)
+
+-- The amounts of a live edge are within their limits.
+pub record IsWithinLimits (hull : List ℕ) (p : Priced) : Type 0 where
+  pub price : ¬ IsHullEdge hull p.edge → (neg_ℤ (pos most_price) ≤ℤ p.value) × (p.value ≤ℤ pos most_price)
+  pub anchor : IsHullEdge hull p.edge → IsAnchor p.value
+  pub left : IsAnchor p.left
+  pub right : IsAnchor p.right
 
 -- no live triangle has the side u to v
 abbrev pub IsBareSide : List Point → List Priced → ℕ → ℕ → Type 0

@@ -1,15 +1,42 @@
 -- Anchors that are raised side by side.
-use Rattle.std.specs.Prelude.{◌≡◌, ◌⊎◌, ℕ, List, drop, flat_map, map, Contains, pos, ◌≤ℤ◌}
+use Rattle.std.specs.Prelude.{◌≡◌, ◌⊎◌, ℕ, cond, nat_lt, Bool, List, [], ◌∷◌, drop, flat_map, map, slice_index_or, slice_set, Contains, ℤ, pos, ◌+ℤ◌, ◌≤ℤ◌}
 use Rattle.std.specs.List.{items_where_true}
 use Rattle.exact_predicates.specs.declared.tri.Tri.{Tri}
 use Rattle.lmt_network.specs.Network.{NetworkParts}
-use Rattle.lmt_network.specs.Numbers.{IsHullNumber}
-use Rattle.lmt_network.specs.PriceTables.{PriceTable}
-use Rattle.lmt_network.specs.Prices.{slack}
+use Rattle.lmt_network.specs.Flags.{live_numbers}
+use Rattle.lmt_network.specs.Numbers.{IsHullNumber, IsNumberOf}
+use Rattle.lmt_network.specs.PriceTables.{PriceTable, table_prices}
+use Rattle.lmt_network.specs.Prices.{is_on_hull, slack}
 use Rattle.price_ascent.specs.declared.entry.Entry.{Entry}
-use Rattle.price_ascent.specs.Ascent.{IsLiveOn, IsRaisedAlong, both_sides}
+use Rattle.price_ascent.specs.Ascent.{IsLeastSlack, IsLiveOn, both_sides}
 use Rattle.price_ascent.specs.Belonging.{BelongTo, IsBareSide}
 use Rattle.price_ascent.specs.Entries.{entry, live_of, prices_of, table_of}
+
+-- the list with m more at the place e
+abbrev pub with_more : List ℤ → ℕ → ℤ → List ℤ
+with_more xs e m = slice_set xs e (slice_index_or xs e (pos 0) +ℤ m)
+
+-- the table in which the anchor of the side u to v of the edge e is m more
+abbrev pub raised : NetworkParts → PriceTable → ℕ → ℕ → ℕ → ℤ → PriceTable
+raised n table e u v m =
+    cond (is_on_hull n.hull u v)
+    (record { values = with_more table.values e m; lefts = table.lefts; rights = table.rights })
+    (cond (nat_lt u v)
+    (record { values = table.values; lefts = with_more table.lefts e m; rights = table.rights })
+    (record { values = table.values; lefts = table.lefts; rights = with_more table.rights e m }))
+
+-- the anchor of the side u to v is raised by the least slack of the live triangles with this side
+pub record IsRaisedNext (n : NetworkParts) (live : List Bool) (old new : PriceTable) (u v : ℕ) : Type 0 where
+  pub e : ℕ
+  pub number : IsNumberOf n u v e
+  pub m : ℤ
+  pub least : IsLeastSlack n.points n.hull (table_prices n old (live_numbers live)) u v m
+  pub new_is : new ≡ raised n old e u v m
+
+-- the anchors of these sides are raised one after the other, each under those that are raised already
+abbrev pub IsRaisedAlong : NetworkParts → List Bool → List (ℕ × ℕ) → PriceTable → PriceTable → Type 0
+IsRaisedAlong n live [] old new = new ≡ old
+IsRaisedAlong n live (s ∷ sides) old new = (next : PriceTable) × IsRaisedNext n live old next s.0 s.1 × IsRaisedAlong n live sides next new
 
 -- some live triangle with the side u to v has no slack, or there is none
 abbrev pub IsSettled : NetworkParts → List Entry → ℕ → ℕ → Type 0

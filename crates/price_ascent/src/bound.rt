@@ -1,8 +1,9 @@
 // The bound that the anchors add up to.
-ghost use Rattle.std.specs.Prelude.{◌≡◌, ◌*◌, ◌^◌, ◌<◌, ◌≤◌, pos, ◌≤ℤ◌, length};
+ghost use Rattle.std.specs.Prelude.{◌≡◌, ◌*◌, ◌<◌, pos, ◌≤ℤ◌, All, length};
+ghost use Rattle.mwt_base.specs.Limits.{most_anchor, most_edges};
 ghost use Rattle.lmt_network.specs.PriceTables.{entry_at};
 ghost use Rattle.lmt_network.specs.Prices.{ArePrices, IsFeasible, anchors_of, bound};
-ghost use Rattle.price_ascent.specs.Belonging.{BelongTo};
+ghost use Rattle.price_ascent.specs.Belonging.{BelongTo, IsWithinLimits};
 ghost use Rattle.price_ascent.specs.Entries.{anchored_edges, prices_of, table_of};
 
 use crate::prices::Prices;
@@ -14,6 +15,9 @@ impl Prices {
     pub fn bound(&self, net: &Network) -> i128
         requires belong { BelongTo net.now self.now }
         ensures value { result ≡ bound net.now.hull (prices_of net.now self.now) }
+        ensures not_negative { pos 0 ≤ℤ result }
+        ensures high { result ≤ℤ pos (2 * most_anchor * most_edges) }
+        ensures within { All (IsWithinLimits net.now.hull) (prices_of net.now self.now) }
         ensures are_prices { ArePrices (anchored_edges net.now self.now) (prices_of net.now self.now) }
         ensures feasible { IsFeasible net.now.points net.now.hull (prices_of net.now self.now) }
     {
@@ -29,8 +33,8 @@ impl Prices {
         requires belong { BelongTo net.now self.now }
         requires e_in { e < length net.now.edges }
         ensures value { result ≡ anchors_of net.now.hull (entry_at net.now (table_of self.now) e) }
-        ensures low { pos 0 ≤ℤ result }
-        ensures high { result ≤ℤ pos (2 * 10 ^ 18) }
+        ensures not_negative { pos 0 ≤ℤ result }
+        ensures high { result ≤ℤ pos (2 * most_anchor) }
     {
         let kept = self.at(e);
         if net.is_hull(e) {

@@ -11,8 +11,6 @@ mod raise;
 mod slacks;
 mod start;
 mod sweep;
-#[cfg(test)]
-mod tests;
 mod tighten;
 
 pub use prices::Prices;

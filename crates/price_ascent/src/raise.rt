@@ -14,7 +14,7 @@ use lmt_network::Network;
 
 impl Prices {
     // Raises the anchor of the hull's pair u to v.
-    pub fn raise_hull(&mut self, net: &Network, u: u32, v: u32)
+    pub(crate) fn raise_hull(&mut self, net: &Network, u: u32, v: u32)
         requires belong { BelongTo net.now self.old }
         requires pair { IsHullPair net.now.hull u v }
         ensures belong { BelongTo net.now self.new }
@@ -27,7 +27,7 @@ impl Prices {
     }
 
     // Raises the anchor of the edge's side from its lesser end to its greater.
-    pub fn raise_left(&mut self, net: &Network, e: u32)
+    pub(crate) fn raise_left(&mut self, net: &Network, e: u32)
         requires belong { BelongTo net.now self.old }
         requires e_in { e < length net.now.edges }
         requires anchored { (entry self.old e).anchored ≡ true }
@@ -41,7 +41,7 @@ impl Prices {
     }
 
     // Raises the anchor of the edge's side from its greater end to its lesser.
-    pub fn raise_right(&mut self, net: &Network, e: u32)
+    pub(crate) fn raise_right(&mut self, net: &Network, e: u32)
         requires belong { BelongTo net.now self.old }
         requires e_in { e < length net.now.edges }
         requires anchored { (entry self.old e).anchored ≡ true }

@@ -1,20 +1,44 @@
-// A step of a sweep.
-ghost use Rattle.std.specs.Prelude.{◌≡◌, ◌<◌, length, true};
+// A sweep of prices, edge by edge.
+ghost use Rattle.std.specs.Prelude.{◌≡◌, ◌<◌, ℕ, ◌≤ℤ◌, length, true};
 ghost use Rattle.lmt_network.specs.Numbers.{IsHullNumber};
+ghost use Rattle.lmt_network.specs.Prices.{IsFeasible};
+ghost use Rattle.price_ascent.specs.Ascent.{IsSweep, value_at};
 ghost use Rattle.price_ascent.specs.Belonging.{BelongTo, IsPrice};
-ghost use Rattle.price_ascent.specs.Entries.{entry};
+ghost use Rattle.price_ascent.specs.Entries.{anchored_edges, entry, live_of, prices_of, table_of};
 ghost use Rattle.price_ascent.specs.Steps.{AreShares, IsLowered, IsSlack, lowered};
 
 use crate::entry::Entry;
 use crate::prices::Prices;
-use lmt_network::Network;
+use lmt_network::{Flags, Network};
 
 // No sweep makes a price less than this.
 const LOWEST: i64 = -400_000_000_000_000_000;
 
 impl Prices {
+    /// One sweep: lowers the price of each live edge that is no hull edge, in ascending order, by the
+    /// least slack on its right side. Raises no price, and keeps all anchors. Takes no memory.
+    pub fn sweep(&mut self, net: &Network, flags: &Flags)
+        requires belong { BelongTo net.now self.old }
+        requires live { flags.now ≡ live_of self.old }
+        ensures sweep { IsSweep net.now (live_of self.old) (table_of self.old) (table_of self.new) }
+        ensures belong { BelongTo net.now self.new }
+        ensures feasible { IsFeasible net.now.points net.now.hull (prices_of net.now self.new) }
+        ensures falls { (e : ℕ) → value_at (table_of self.new) e ≤ℤ value_at (table_of self.old) e }
+        ensures anchors { (e : ℕ) → IsHullNumber net.now e → value_at (table_of self.new) e ≡ value_at (table_of self.old) e }
+        ensures lefts { (table_of self.new).lefts ≡ (table_of self.old).lefts }
+        ensures rights { (table_of self.new).rights ≡ (table_of self.old).rights }
+        ensures live { live_of self.new ≡ live_of self.old }
+        ensures anchored { anchored_edges net.now self.new ≡ anchored_edges net.now self.old }
+    {
+        for e in 0..net.edges() {
+            if flags.live(e) && !net.is_hull(e) {
+                self.lower(net, e);
+            }
+        }
+    }
+
     // Lowers the price of the inner edge by the least slack on its right side.
-    pub fn lower(&mut self, net: &Network, e: u32)
+    fn lower(&mut self, net: &Network, e: u32)
         requires belong { BelongTo net.now self.old }
         requires e_in { e < length net.now.edges }
         requires live { (entry self.old e).live ≡ true }

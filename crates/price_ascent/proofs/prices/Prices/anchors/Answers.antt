@@ -4,7 +4,7 @@ use Rattle.std.proofs.lemmas.Int.{ints}
 use Rattle.price_ascent.specs.declared.entry.Entry.{Entry}
 use Rattle.price_ascent.proofs.AnchorSums.{anchors_off, anchors_on}
 use Rattle.price_ascent.proofs.Lowering.{inner_off}
-use Rattle.price_ascent.proofs.Raising.{hull_on}
+use Rattle.price_ascent.proofs.RaisingHull.{hull_on}
 use Rattle.price_ascent.proofs.prices.Prices.anchors.Goals as goal
 
 pub returns-then-is_hull-clause-value : goal.returns-then-is_hull-clause-value
@@ -18,8 +18,8 @@ returns-then-is_hull-clause-value c =
     let y1 = y.1 in
     omega (arith, ints, is, kept, from, y0, y1)
 
-pub returns-then-is_hull-clause-low : goal.returns-then-is_hull-clause-low
-returns-then-is_hull-clause-low c =
+pub returns-then-is_hull-clause-not_negative : goal.returns-then-is_hull-clause-not_negative
+returns-then-is_hull-clause-not_negative c =
     let hull = c.is_hull.ensures.0 c.if-is_hull.true in
     let kept = ap (λ (p : Entry). p.value) c.at-kept.ensures in
     let from = c.from.ensures in
@@ -53,8 +53,8 @@ returns-else-is_hull-clause-value c =
     let from_right = c.from-else-is_hull-2.ensures in
     omega (arith, ints, is, left, right, l0, l1, r0, r1, from, from_right)
 
-pub returns-else-is_hull-clause-low : goal.returns-else-is_hull-clause-low
-returns-else-is_hull-clause-low c =
+pub returns-else-is_hull-clause-not_negative : goal.returns-else-is_hull-clause-not_negative
+returns-else-is_hull-clause-not_negative c =
     let h = c.requires.belong.each c.args.e c.requires.e_in in
     let left = ap (λ (p : Entry). p.left) c.at-kept.ensures in
     let right = ap (λ (p : Entry). p.right) c.at-kept.ensures in

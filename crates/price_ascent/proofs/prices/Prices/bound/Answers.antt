@@ -1,7 +1,7 @@
 use Rattle.std.proofs.Common.{◌≤◌, ◌<◌, length, arith}
 use Rattle.std.proofs.lemmas.Int.{ints}
 use Rattle.price_ascent.proofs.AnchorSums.{anchors_all, anchors_next, anchors_none}
-use Rattle.price_ascent.proofs.PriceLists.{are_prices}
+use Rattle.price_ascent.proofs.PriceLists.{are_prices, within_limits}
 use Rattle.price_ascent.proofs.prices.Prices.bound.Goals as goal
 
 pub loop-e-init : goal.loop-e-init
@@ -24,7 +24,7 @@ loop-e-preserved c =
     let low = c.loop-e.invariant.low in
     let high = c.loop-e.invariant.high in
     let value = c.anchors-sum.ensures.value in
-    let more_low = c.anchors-sum.ensures.low in
+    let more_low = c.anchors-sum.ensures.not_negative in
     let more_high = c.anchors-sum.ensures.high in
     let sum_is = c.loop-e.sum-is in
     record {
@@ -45,3 +45,16 @@ returns-clause-value c =
 
 pub returns-clause-are_prices : goal.returns-clause-are_prices
 returns-clause-are_prices c = are_prices c.args.net.now c.args.self.now c.requires.belong
+
+pub returns-clause-not_negative : goal.returns-clause-not_negative
+returns-clause-not_negative c = let low = c.loop-e.invariant.low in let sum_is = c.loop-e.sum-is in omega (arith, ints, low, sum_is)
+
+pub returns-clause-high : goal.returns-clause-high
+returns-clause-high c =
+    let high = c.loop-e.invariant.high in
+    let few = c.requires.belong.network.few_edges in
+    let sum_is = c.loop-e.sum-is in
+    omega (arith, ints, high, few, sum_is)
+
+pub returns-clause-within : goal.returns-clause-within
+returns-clause-within c = within_limits c.args.net.now c.args.self.now c.requires.belong

@@ -5,7 +5,7 @@ use Rattle.price_ascent.specs.Entries.{entry}
 use Rattle.price_ascent.specs.Steps.{AreShares, IsRaisedEntry, IsSlack, hull_raised}
 use Rattle.price_ascent.proofs.Changed.{hull_of}
 use Rattle.price_ascent.proofs.Ends.{hull_number_there, hull_order, least_is}
-use Rattle.price_ascent.proofs.Raising.{hull_belong}
+use Rattle.price_ascent.proofs.RaisingHull.{hull_belong}
 use Rattle.price_ascent.proofs.Shares.{shares_fit}
 use Rattle.price_ascent.proofs.SlackBounds.{least_fits}
 use Rattle.price_ascent.proofs.prices.Prices.raise_hull.Goals as goal

@@ -2,7 +2,8 @@ use Rattle.std.proofs.Common.{◌<◌, ◌+◌, Bool, false, List, length, get_o
 use Rattle.std.proofs.lemmas.Bool.{false≢true}
 use Rattle.std.proofs.lemmas.Int.{ints}
 use Rattle.price_ascent.specs.declared.entry.Entry.{Entry}
-use Rattle.price_ascent.proofs.Sweeps.{AreSwept, all_swept, more_swept, skipped, value_is}
+use Rattle.price_ascent.proofs.Kept.{value_is}
+use Rattle.price_ascent.proofs.Sweeps.{AreSwept, all_swept, more_swept, skipped}
 use Rattle.price_ascent.proofs.prices.Prices.sweep.Goals as goal
 use Rattle.price_ascent.proofs.prices.Prices.sweep.Goals.{then-live+then-not-is_hull, else-live, else-live-via-then-live+else-not-is_hull, else-live-via-else-live}
 

@@ -2,8 +2,7 @@ use Rattle.std.proofs.Common.{sym, ◌∙◌, arith}
 use Rattle.std.proofs.lemmas.Int.{ints}
 use Rattle.price_ascent.specs.declared.entry.Entry.{Entry}
 use Rattle.price_ascent.specs.Entries.{no_entry}
-use Rattle.price_ascent.proofs.Kept.{get_or-mapped}
-use Rattle.price_ascent.proofs.Sweeps.{value_is}
+use Rattle.price_ascent.proofs.Kept.{get_or-mapped, value_is}
 use Rattle.price_ascent.proofs.Tightness.{AreTightened, tight, tightened}
 use Rattle.price_ascent.proofs.prices.Prices.tighten.Goals as goal
 

@@ -2,7 +2,8 @@ use Rattle.std.proofs.Common.{◌≡◌, ◌≤◌, ◌+◌, ℕ, List, ◌∷�
 use Rattle.exact_predicates.specs.Hull.{IsHullPair, ring_pairs}
 use Rattle.exact_predicates.proofs.Rings.{IsNext, pair_of_place}
 use Rattle.price_ascent.specs.Raised.{AreRaised}
-use Rattle.price_ascent.proofs.Raised.{hull-raised, more_raised}
+use Rattle.price_ascent.proofs.Raised.{more_raised}
+use Rattle.price_ascent.proofs.RaisedSides.{hull-raised}
 use Rattle.price_ascent.proofs.Sides.{next_pair, no_pair}
 use Rattle.price_ascent.proofs.prices.Prices.tighten_hull.Goals as goal
 use Rattle.price_ascent.proofs.prices.Prices.tighten_hull.Goals.{then-i-hull, else-i-hull}

@@ -4,7 +4,8 @@ use Rattle.price_ascent.specs.declared.entry.Entry.{Entry}
 use Rattle.price_ascent.specs.Ascent.{both_sides}
 use Rattle.price_ascent.specs.Entries.{anchored_edges, entry}
 use Rattle.price_ascent.specs.Raised.{AreRaised, sides_from}
-use Rattle.price_ascent.proofs.Raised.{left-raised, more_raised, right-raised}
+use Rattle.price_ascent.proofs.Raised.{more_raised}
+use Rattle.price_ascent.proofs.RaisedSides.{left-raised, right-raised}
 use Rattle.price_ascent.proofs.Sides.{anchored-at, sides-more, sides-none, sides-skip}
 use Rattle.price_ascent.proofs.prices.Prices.tighten_inner.Goals as goal
 use Rattle.price_ascent.proofs.prices.Prices.tighten_inner.Goals.{then-at, else-at}
