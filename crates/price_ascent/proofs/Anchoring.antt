@@ -1,27 +1,21 @@
 -- Edges that are given anchors.
-use Rattle.std.proofs.Common.{◌≡◌, ◌≢◌, ◌↔◌, ℕ, ◌<◌, not, Bool, true, false, List, ◌∷◌, [], ◌++◌, length, map, set, AllPairs, Contains, refl, ap, sym, ◌∙◌, subst, arith, ⊎_elim}
+use Rattle.std.proofs.Common.{◌≡◌, ◌≢◌, ℕ, ◌<◌, Bool, true, false, List, ◌∷◌, [], ◌++◌, length, map, set, Contains, refl, ap, sym, ◌∙◌, subst, arith, ⊎_elim}
 use Rattle.std.proofs.lemmas.Bool.{cases_eq, false≢true}
 use Rattle.std.proofs.lemmas.List.{get_or_default}
-use Rattle.std.proofs.lemmas.Bool.Decides.{Decides-not}
-use Rattle.std.proofs.lemmas.List.Kept.{AllPairs-filter}
 use Rattle.std.proofs.lemmas.List.Elements.{Contains-append_left, Contains-push, Contains-push_cases}
 use Rattle.exact_predicates.specs.declared.edge.Edge.{Edge}
-use Rattle.exact_predicates.specs.Candidates.{EdgePrecedes, Joins}
-use Rattle.exact_predicates.proofs.Ascending.{EdgePrecedes-not, ascending-only}
+use Rattle.exact_predicates.specs.Candidates.{Joins}
 use Rattle.exact_predicates.proofs.Equalities.{Edge-equal, Joins-ends}
 use Rattle.lmt_network.specs.Flags.{live_edges}
 use Rattle.lmt_network.specs.Live.{IsHullEdge}
-use Rattle.lmt_network.specs.Network.{IsNetwork, NetworkParts, edge_at}
+use Rattle.lmt_network.specs.Network.{NetworkParts, edge_at}
 use Rattle.lmt_network.specs.Numbers.{IsHullNumber, IsNumberOf}
-use Rattle.lmt_network.specs.Prices.{IsFeasible, Priced, is_on_hull}
+use Rattle.lmt_network.specs.Prices.{IsFeasible, Priced}
 use Rattle.lmt_network.specs.PriceTables.{PriceTable, table_prices}
 use Rattle.lmt_network.specs.Flags.{live_numbers}
-use Rattle.lmt_network.proofs.Entries.{is_on_hull_decides}
-use Rattle.lmt_network.proofs.Filters.{filter-from, filter-to}
 use Rattle.lmt_network.proofs.Naming.{edge_at-once}
-use Rattle.lmt_network.proofs.Picked.{AllPairs-picked, picked_from, picked_in}
+use Rattle.lmt_network.proofs.Picked.{picked_from, picked_in}
 use Rattle.price_ascent.specs.declared.entry.Entry.{Entry}
-use Rattle.price_ascent.specs.Ascent.{inner_edges}
 use Rattle.price_ascent.specs.Belonging.{BelongTo, IsEntryOf}
 use Rattle.price_ascent.specs.Entries.{anchored_edges, entry, live_of, no_entry, prices_of, table_of}
 use Rattle.price_ascent.specs.Steps.{anchored}
@@ -159,14 +153,3 @@ anchored-back n es fs xs x h live has out =
     let is = number-edge n k.0 x k.1 in
     let flag = h.back k.0 k.1.0 (subst (Contains xs) (sym is) has) (subst (λ (y : Edge). ¬ IsHullEdge n.hull y) (sym is) out) in
     subst (Contains (anchored_edges n fs)) is (picked_in (map (λ p. p.anchored) fs) n.edges k.0 _ k.1.0 (get_or-mapped (λ (p : Entry). p.anchored) fs k.0 no_entry ∙ flag))
-
--- and they are these in their order
-pub anchored_are : (n : NetworkParts) (es : List Entry) (xs : List Edge) → IsNetwork n → AllPairs EdgePrecedes xs
-    → ((e : Edge) → Contains (anchored_edges n es) e ↔ (Contains xs e × (¬ IsHullEdge n.hull e))) → anchored_edges n es ≡ inner_edges n.hull xs
-anchored_are n es xs net up each =
-    let off = λ (e : Edge). not (is_on_hull n.hull e.a e.b) in
-    let decides = λ (e : Edge). Decides-not (is_on_hull n.hull e.a e.b) (is_on_hull_decides n.hull e.a e.b) in
-    ascending-only EdgePrecedes EdgePrecedes-not (anchored_edges n es) (inner_edges n.hull xs)
-    (AllPairs-picked EdgePrecedes (map (λ p. p.anchored) es) n.edges net.ascending) (AllPairs-filter EdgePrecedes off xs up)
-    (λ e has. let both = (each e).0 has in filter-to off xs e both.0 ((decides e).1 both.1))
-    (λ e has. let both = filter-from off xs e has in (each e).1 (both.0, (decides e).0 both.1))

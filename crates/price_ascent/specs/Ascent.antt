@@ -1,6 +1,6 @@
 -- How prices rise to a good bound: they start at half of each weight, sweeps move slack from the right side of each edge to
 -- its left, and at the end the anchors take what slack is left.
-use Rattle.std.specs.Prelude.{◌≡◌, ◌⊎◌, ℕ, zero, suc, ◌/◌, ◌<◌, ◌||◌, not, cond, nat_lt, Bool, true, false, List, [], ◌∷◌, ◌++◌, length, map, filter, take, drop, flat_map, replicate, slice_index_or, Contains, ℤ, pos, neg_ℤ, ◌+ℤ◌, ◌-ℤ◌, ◌≤ℤ◌}
+use Rattle.std.specs.Prelude.{◌≡◌, ◌⊎◌, ℕ, zero, suc, ◌/◌, ◌<◌, ◌||◌, cond, nat_lt, Bool, true, false, List, [], ◌∷◌, ◌++◌, length, map, take, drop, flat_map, replicate, slice_index_or, Contains, ℤ, pos, neg_ℤ, ◌+ℤ◌, ◌-ℤ◌, ◌≤ℤ◌}
 use Rattle.std.specs.List.{list_any}
 use Rattle.std.specs.Int.{int_max}
 use Rattle.mwt_base.specs.Limits.{most_price}
@@ -72,10 +72,6 @@ pub record IsSweep (n : NetworkParts) (live : List Bool) (old new : PriceTable) 
   pub others : (e : ℕ) → (slice_index_or live e false ≡ false) ⊎ IsHullNumber n e → value_at new e ≡ value_at old e
   pub lefts : new.lefts ≡ old.lefts
   pub rights : new.rights ≡ old.rights
-
--- the edges of a list that are not on the hull
-abbrev pub inner_edges : List ℕ → List Edge → List Edge
-inner_edges hull es = filter (λ e. not (is_on_hull hull e.a e.b)) es
 
 -- the two sides of an edge: first the one from its lesser end to its greater
 abbrev pub both_sides : Edge → List (ℕ × ℕ)

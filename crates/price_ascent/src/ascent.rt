@@ -1,10 +1,11 @@
 // Start, sweeps and tightening, one after the other.
-ghost use Rattle.std.specs.Prelude.{◌≡◌, All, AllPairs, Contains, IfOk, length};
-ghost use Rattle.exact_predicates.specs.Candidates.{EdgePrecedes};
+ghost use Rattle.std.specs.Prelude.{◌≡◌, ◌↔◌, All, Contains, IfOk, length};
+ghost use Rattle.exact_predicates.specs.declared.edge.Edge.{Edge};
 ghost use Rattle.lmt_network.specs.Flags.{live_edges, live_numbers};
+ghost use Rattle.lmt_network.specs.Live.{IsHullEdge};
 ghost use Rattle.lmt_network.specs.Numbers.{AreLive};
 ghost use Rattle.lmt_network.specs.Prices.{IsFeasible, IsTight};
-ghost use Rattle.price_ascent.specs.Ascent.{IsAscent, inner_edges};
+ghost use Rattle.price_ascent.specs.Ascent.{IsAscent};
 ghost use Rattle.price_ascent.specs.Belonging.{BelongTo};
 ghost use Rattle.price_ascent.specs.Entries.{anchored_edges, live_of, prices_of, table_of};
 
@@ -26,15 +27,15 @@ impl Prices {
         requires one_each { length flags.now ≡ length net.now.edges }
         requires live { AreLive net.now (live_numbers flags.now) }
         requires skeleton { All (Contains (live_edges net.now flags.now)) skeleton.now }
-        requires ascending { AllPairs EdgePrecedes skeleton.now }
         ensures ascent { IfOk result (λ prices.
-            IsAscent net.now flags.now (inner_edges net.now.hull skeleton.now) sweeps (table_of prices)) }
+            IsAscent net.now flags.now (anchored_edges net.now prices) sweeps (table_of prices)) }
         ensures tight { IfOk result (λ prices.
-            IsTight net.now.points net.now.hull (inner_edges net.now.hull skeleton.now) (prices_of net.now prices)) }
+            IsTight net.now.points net.now.hull (anchored_edges net.now prices) (prices_of net.now prices)) }
         ensures belong { IfOk result (λ prices. BelongTo net.now prices) }
         ensures feasible { IfOk result (λ prices. IsFeasible net.now.points net.now.hull (prices_of net.now prices)) }
         ensures live { IfOk result (λ prices. live_of prices ≡ flags.now) }
-        ensures anchored { IfOk result (λ prices. anchored_edges net.now prices ≡ inner_edges net.now.hull skeleton.now) }
+        ensures anchored { IfOk result (λ prices. (e : Edge)
+            → Contains (anchored_edges net.now prices) e ↔ (Contains skeleton.now e × (¬ IsHullEdge net.now.hull e))) }
     {
         let mut prices = Prices::start(alloc, net, flags, skeleton)?;
         for _done in 0..sweeps {

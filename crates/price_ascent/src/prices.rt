@@ -54,6 +54,14 @@ impl Prices {
         self.at(e).right
     }
 
+    /// Whether the two sides of the edge have anchors of their own.
+    pub fn is_anchored(&self, e: u32) -> bool
+        requires { e < length self.now }
+        ensures { result ≡ (entry self.now e).anchored }
+    {
+        self.at(e).anchored
+    }
+
     /// The slack of a live triangle.
     pub fn slack(&self, net: &Network, t: u32) -> i128
         requires belong { BelongTo net.now self.now }

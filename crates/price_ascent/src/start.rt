@@ -1,14 +1,13 @@
 // The prices at the start.
-ghost use Rattle.std.specs.Prelude.{◌≡◌, ◌↔◌, ◌*◌, ◌^◌, ◌<◌, ℕ, All, AllPairs, Contains, IfOk, length, pos, slice_index_or, slice_set, true, false};
+ghost use Rattle.std.specs.Prelude.{◌≡◌, ◌↔◌, ◌*◌, ◌^◌, ◌<◌, ℕ, All, Contains, IfOk, length, pos, slice_index_or, slice_set, true, false};
 ghost use Rattle.exact_predicates.specs.declared.edge.Edge.{Edge};
-ghost use Rattle.exact_predicates.specs.Candidates.{EdgePrecedes};
 ghost use Rattle.lmt_network.specs.Flags.{live_edges, live_numbers};
 ghost use Rattle.length_enclosure.specs.Enclosure.{weight};
 ghost use Rattle.lmt_network.specs.Live.{IsHullEdge};
 ghost use Rattle.lmt_network.specs.Network.{IsNetwork, edge_at};
 ghost use Rattle.lmt_network.specs.Numbers.{AreLive, IsHullNumber};
 ghost use Rattle.lmt_network.specs.Prices.{IsFeasible};
-ghost use Rattle.price_ascent.specs.Ascent.{IsStart, inner_edges};
+ghost use Rattle.price_ascent.specs.Ascent.{IsStart};
 ghost use Rattle.price_ascent.specs.Belonging.{BelongTo};
 ghost use Rattle.price_ascent.specs.Entries.{anchored_edges, entry, live_of, prices_of, table_of};
 ghost use Rattle.price_ascent.specs.Steps.{anchored, start_entry};
@@ -34,12 +33,12 @@ impl Prices {
         requires one_each { length flags.now ≡ length net.now.edges }
         requires live { AreLive net.now (live_numbers flags.now) }
         requires skeleton { All (Contains (live_edges net.now flags.now)) skeleton.now }
-        requires ascending { AllPairs EdgePrecedes skeleton.now }
         ensures start { IfOk result (λ prices. IsStart net.now flags.now (table_of prices)) }
         ensures belong { IfOk result (λ prices. BelongTo net.now prices) }
         ensures feasible { IfOk result (λ prices. IsFeasible net.now.points net.now.hull (prices_of net.now prices)) }
         ensures live { IfOk result (λ prices. live_of prices ≡ flags.now) }
-        ensures anchored { IfOk result (λ prices. anchored_edges net.now prices ≡ inner_edges net.now.hull skeleton.now) }
+        ensures anchored { IfOk result (λ prices. (e : Edge)
+            → Contains (anchored_edges net.now prices) e ↔ (Contains skeleton.now e × (¬ IsHullEdge net.now.hull e))) }
     {
         let mut prices = Prices::of(first_entries(alloc, net, flags)?);
         prices.anchor_all(net, skeleton);

@@ -9,7 +9,6 @@ use Rattle.price_ascent.specs.declared.entry.Entry.{Entry}
 use Rattle.price_ascent.specs.Ascent.{IsStart}
 use Rattle.price_ascent.specs.Entries.{entry}
 use Rattle.price_ascent.specs.Steps.{start_entry}
-use Rattle.price_ascent.proofs.Anchoring.{anchored_are}
 use Rattle.price_ascent.proofs.Starting.{AreFirst, first_belong, first_live, first_start, none_yet}
 use Rattle.price_ascent.proofs.prices.Prices.start.Goals as goal
 
@@ -54,6 +53,3 @@ returns-clause-live c =
     c.anchor_all.ensures.live
     ∙ first_live c.args.net.now c.args.flags.now c.of-prices.result
     (first c.args.net.now c.args.flags.now c.of-prices.result _ c.of-prices.ensures c.first_entries.ensures.network d.one_each c.requires.one_each d.each d.light c.requires.live)
-
-pub returns-clause-anchored : goal.returns-clause-anchored
-returns-clause-anchored c = anchored_are c.args.net.now c.anchor_all.new.self c.args.skeleton.now c.first_entries.ensures.network c.requires.ascending c.anchor_all.ensures.anchored
