@@ -27,12 +27,12 @@ Counts n ws ws' = (e : ℕ) → e / 64 < length n.edges / 64 + 1 → mark_of ws'
 
 module _ (k : About) where
   pub begins : (slots id : ℕ) (me : Sitting) (note e : ℕ) → me.1 ≡ (note, e) ∷ [] → me.0.phase ≡ Idle → e < length k.net.value.edges → ¬ IsHullNumber k.net.value e → ¬ Contains me.0.tried e → IsBroken k.net.value me.0.seen e
-      → Allows (MarksHold k) slots id me (length k.net.value.edges / 64 + 1) (λ x. (x + 1) % 2 ^ 64) (started (step slots (length k.net.value.edges / 64 + 1) 1 0 none) me)
-  begins slots id me note e carried idle low inner new broken s r _ at fits = let n : NetworkParts = net k in let ws : List ℕ = s.words in let E : ℕ = length n.edges in let W : ℕ = E / 64 + 1 in let x : ℕ = get_or ws W 0 in let d : Known = me.0 in let h = r.each id d at in
+      → Allows (MarksHold k) slots id me (length k.net.value.edges / 64 + 16) (λ x. (x + 1) % 2 ^ 64) (started (step slots (length k.net.value.edges / 64 + 16) 1 0 none) me)
+  begins slots id me note e carried idle low inner new broken s r _ at fits = let n : NetworkParts = net k in let ws : List ℕ = s.words in let E : ℕ = length n.edges in let W : ℕ = E / 64 + 16 in let x : ℕ = get_or ws W 0 in let d : Known = me.0 in let h = r.each id d at in
       let w : Known = begun_view W e x d in let small = begun_small k s r in let up : x + 1 ≡ (x + 1) % 18446744073709551616 = omega arith in let ws' : List ℕ = set ws W (x + 1) in let wide = r.wide in
       let same : (j : ℕ) → j ≢ W → get_or ws' j 0 ≡ get_or ws j 0 = λ j ne. get_or-set_other ws W j (x + 1) 0 ne in
       let now : get_or ws' W 0 ≡ x + 1 = get_or-set_same ws W (x + 1) 0 (omega arith) in
-      let now' : get_or ws' (E / 64 + 2) 0 ≡ get_or ws (E / 64 + 2) 0 = same (E / 64 + 2) (λ z. omega arith) in
+      let now' : get_or ws' (E / 64 + 32) 0 ≡ get_or ws (E / 64 + 32) 0 = same (E / 64 + 32) (λ z. omega arith) in
       let mark : Counts n ws ws' = λ f l. ap (λ (y : ℕ). bit_in y f) (same (f / 64) (λ z. omega arith)) in
       let others : (v : Known) → ViewHolds n ws v → ViewHolds n ws' v = λ v. view_words n ws ws' v (omega arith) (λ f l p. let m = mark f (omega arith) in omega arith) (λ b b_le is _. omega arith)
       (λ _. live_words n ws ws' (λ f l z. mark f (omega arith) ∙ z) (λ f l z. sym (mark f (omega arith)) ∙ z)) in
@@ -73,8 +73,8 @@ module _ (k : About) where
       let w : Known = marked_view e x d in let y : ℕ = bit_or x (2 ^ (e % 64)) in let ws' : List ℕ = marked_words ws e in let wide = r.wide in let aims : IsAim n d.tried e = subst (PhaseHolds n ws d.tried) is h.aim in let low = aims.0 in
       let same : (j : ℕ) → j ≢ e → mark_of ws' j ≡ mark_of ws j = λ j ne. mark_else ws e j (omega arith) ne in
       let now : mark_of ws' e ≡ 1 = mark_here ws e (omega arith) in let lit : 0 < mark_of ws' e = omega arith in
-      let now₀ : get_or ws' (E / 64 + 1) 0 ≡ get_or ws (E / 64 + 1) 0 = get_or-set_other ws i (E / 64 + 1) y 0 (λ z. omega arith) in
-      let now₁ : get_or ws' (E / 64 + 2) 0 ≡ get_or ws (E / 64 + 2) 0 = get_or-set_other ws i (E / 64 + 2) y 0 (λ z. omega arith) in
+      let now₀ : get_or ws' (E / 64 + 16) 0 ≡ get_or ws (E / 64 + 16) 0 = get_or-set_other ws i (E / 64 + 16) y 0 (λ z. omega arith) in
+      let now₁ : get_or ws' (E / 64 + 32) 0 ≡ get_or ws (E / 64 + 32) 0 = get_or-set_other ws i (E / 64 + 32) y 0 (λ z. omega arith) in
       let kept : (f : ℕ) → f < E → 0 < mark_of ws f → 0 < mark_of ws' f = λ f l p. dite (ℕ_discrete f e) (λ z. subst (λ (j : ℕ). 0 < mark_of ws' j) (sym z) lit) (λ z. let m = same f z in omega arith) in
       let one : is_busy d ≡ 1 = ap busy is in let gap = in_kill k s r id d at one in
       let others : (v : Known) → ViewHolds n ws v → ViewHolds n ws' v = λ v. view_words n ws ws' v (omega arith) kept (λ b b_le h imp. let z = imp (omega arith) in omega arith)
@@ -114,13 +114,13 @@ module _ (k : About) where
   marks_by slots id me e bit is begun = subst (λ (b : ℕ). Allows (MarksHold k) slots id me (e / 64) (λ x. bit_or x b) (marked (step slots (e / 64) b 0 none) me)) (sym is) (marks slots id me e begun)
 
   pub finishes : (slots id : ℕ) (me : Sitting) (e : ℕ) → me.0.phase ≡ Marked e
-      → Allows (MarksHold k) slots id me (length k.net.value.edges / 64 + 2) (λ x. (x + 1) % 2 ^ 64) (ended (step slots (length k.net.value.edges / 64 + 2) 1 0 none) me)
-  finishes slots id me e is s r _ at fits = let n : NetworkParts = net k in let ws : List ℕ = s.words in let E : ℕ = length n.edges in let i : ℕ = E / 64 + 2 in let x : ℕ = get_or ws i 0 in let d : Known = me.0 in let h = r.each id d at in
+      → Allows (MarksHold k) slots id me (length k.net.value.edges / 64 + 32) (λ x. (x + 1) % 2 ^ 64) (ended (step slots (length k.net.value.edges / 64 + 32) 1 0 none) me)
+  finishes slots id me e is s r _ at fits = let n : NetworkParts = net k in let ws : List ℕ = s.words in let E : ℕ = length n.edges in let i : ℕ = E / 64 + 32 in let x : ℕ = get_or ws i 0 in let d : Known = me.0 in let h = r.each id d at in
       let w : Known = ended_view i e x d in let small = begun_small k s r in let wide = r.wide in let aims : IsAim n d.tried e × (0 < mark_of ws e) = subst (PhaseHolds n ws d.tried) is h.aim in let low = aims.0.0 in
       let one : is_busy d ≡ 1 = ap busy is in let gap = in_kill k s r id d at one in let up : x + 1 ≡ (x + 1) % 18446744073709551616 = omega arith in let ws' : List ℕ = set ws i (x + 1) in
       let same : (j : ℕ) → j ≢ i → get_or ws' j 0 ≡ get_or ws j 0 = λ j ne. get_or-set_other ws i j (x + 1) 0 ne in
       let now : get_or ws' i 0 ≡ x + 1 = get_or-set_same ws i (x + 1) 0 (omega arith) in
-      let now₀ : get_or ws' (E / 64 + 1) 0 ≡ get_or ws (E / 64 + 1) 0 = same (E / 64 + 1) (λ z. omega arith) in
+      let now₀ : get_or ws' (E / 64 + 16) 0 ≡ get_or ws (E / 64 + 16) 0 = same (E / 64 + 16) (λ z. omega arith) in
       let mark : Counts n ws ws' = λ f l. ap (λ (y : ℕ). bit_in y f) (same (f / 64) (λ z. omega arith)) in
       let lit : 0 < mark_of ws' e = (let m = mark e (omega arith) in let p = aims.1 in omega arith) in
       let others : (v : Known) → ViewHolds n ws v → ViewHolds n ws' v = λ v. view_words n ws ws' v (omega arith) (λ f l p. let m = mark f (omega arith) in omega arith) (λ b b_le h imp. let z = imp (omega arith) in omega arith)

@@ -11,6 +11,7 @@ pub mod Looks
 pub mod Members
 pub mod Packed
 pub mod Passes
+pub mod Remembering
 pub mod Seats
 pub mod Sides
 pub mod Sitters

@@ -20,7 +20,7 @@ looked_append (x ∷ xs) ys d = looked_append xs ys (looked_view x.edge x.value 
 pub looked_on : (old mid new : Known) (xs ys : List Asked) → mid ≡ looked_all xs old → new ≡ looked_all ys mid → new ≡ looked_all (xs ++ ys) old
 looked_on old mid new xs ys a b = b ∙ (ap (looked_all ys) a ∙ sym (looked_append xs ys old))
 
-seen_more : (e b f : ℕ) (seen : List ℕ) → Contains seen f → Contains (now_seen e b seen) f
+pub seen_more : (e b f : ℕ) (seen : List ℕ) → Contains seen f → Contains (now_seen e b seen) f
 seen_more e zero f seen h = h
 seen_more e (suc b) f seen h = contains-later e f seen h
 

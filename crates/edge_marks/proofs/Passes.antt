@@ -44,8 +44,8 @@ still_killed : (n : NetworkParts) (ws : List ℕ) (loads : List Loaded) (e : ℕ
 still_killed n ws loads e present h = subst (λ (x : ℕ). 0 < bit_in x e) (sym (present _ h.1).1) h.2
 
 module _ (k : About) where
-  pub opens : (slots id : ℕ) (me : Sitting) → Allows (MarksHold k) slots id me (length k.net.value.edges / 64 + 1) (λ x. x) (opened (step slots (length k.net.value.edges / 64 + 1) 0 0 none) me)
-  opens slots id me s r _ at fits = let n : NetworkParts = net k in let W : ℕ = length n.edges / 64 + 1 in let x : ℕ = get_or s.words W 0 in let d : Known = me.0 in let h = r.each id d at in let w : Known = opened_view W x d in
+  pub opens : (slots id : ℕ) (me : Sitting) → Allows (MarksHold k) slots id me (length k.net.value.edges / 64 + 16) (λ x. x) (opened (step slots (length k.net.value.edges / 64 + 16) 0 0 none) me)
+  opens slots id me s r _ at fits = let n : NetworkParts = net k in let W : ℕ = length n.edges / 64 + 16 in let x : ℕ = get_or s.words W 0 in let d : Known = me.0 in let h = r.each id d at in let w : Known = opened_view W x d in
       let same : x ≤ get_or s.words W 0 = omega arith in let most = begun_bounded k s r in let bound : x ≤ 65 * length d.net.edges = subst (λ (m : NetworkParts). x ≤ 65 * length m.edges) (sym h.net_is) most in (
         w,
         keeps,
@@ -64,8 +64,8 @@ module _ (k : About) where
         (refl, h.low_is, bound),
       )
 
-  pub compares : (slots id : ℕ) (me : Sitting) → Allows (MarksHold k) slots id me (length k.net.value.edges / 64 + 2) (λ x. x) (read_finished (step slots (length k.net.value.edges / 64 + 2) 0 0 none) me)
-  compares slots id me s r _ at fits = let n : NetworkParts = net k in let i : ℕ = length n.edges / 64 + 2 in let x : ℕ = get_or s.words i 0 in let d : Known = me.0 in let h = r.each id d at in let w : Known = compared_view i x d in (
+  pub compares : (slots id : ℕ) (me : Sitting) → Allows (MarksHold k) slots id me (length k.net.value.edges / 64 + 32) (λ x. x) (read_finished (step slots (length k.net.value.edges / 64 + 32) 0 0 none) me)
+  compares slots id me s r _ at fits = let n : NetworkParts = net k in let i : ℕ = length n.edges / 64 + 32 in let x : ℕ = get_or s.words i 0 in let d : Known = me.0 in let h = r.each id d at in let w : Known = compared_view i x d in (
     w,
     keeps,
     tt,
@@ -106,8 +106,8 @@ module _ (k : About) where
   }
 
   pub settles : (slots id : ℕ) (me : Sitting) (b : ℕ) (loads : List Loaded) → me.0.pass ≡ InPass b loads → AreJudged k.net.value loads
-      → Allows (MarksHold k) slots id me (length k.net.value.edges / 64 + 1) (λ x. x) (settled (step slots (length k.net.value.edges / 64 + 1) 0 0 none) me)
-  settles slots id me b loads is judged s r _ at fits = let n : NetworkParts = net k in let W : ℕ = length n.edges / 64 + 1 in let x : ℕ = get_or s.words W 0 in let d : Known = me.0 in let h = r.each id d at in let w : Known = settled_view W x d in
+      → Allows (MarksHold k) slots id me (length k.net.value.edges / 64 + 16) (λ x. x) (settled (step slots (length k.net.value.edges / 64 + 16) 0 0 none) me)
+  settles slots id me b loads is judged s r _ at fits = let n : NetworkParts = net k in let W : ℕ = length n.edges / 64 + 16 in let x : ℕ = get_or s.words W 0 in let d : Known = me.0 in let h = r.each id d at in let w : Known = settled_view W x d in
       let same : x ≤ get_or s.words W 0 = omega arith in let pass : PassHolds n s.words (InPass b loads) = subst (PassHolds n s.words) is h.in_pass in
       let most = begun_bounded k s r in let bound : x ≤ 65 * length d.net.edges = subst (λ (m : NetworkParts). x ≤ 65 * length m.edges) (sym h.net_is) most in (
         w,

@@ -35,9 +35,9 @@ weight_most true = omega arith
 weight_most false = omega arith
 
 module _ (k : About) where
-  pub starts : (ws xs : List ℕ) → length ws ≡ length k.net.value.edges / 64 + 3 → ((i : ℕ) → get_or ws i 0 ≡ 0) → length xs ≡ k.seats * 32 → 0 < k.seats → k.seats ≤ 65 → length k.net.value.edges < 4294967296
+  pub starts : (ws xs : List ℕ) → length ws ≡ length k.net.value.edges / 64 + 48 → ((i : ℕ) → get_or ws i 0 ≡ 0) → length xs ≡ k.seats * 32 → 0 < k.seats → k.seats ≤ 65 → length k.net.value.edges < 4294967296
       → MarksHold k (opening ws xs (first_view k))
-  starts ws xs wide blank deep some_seat few small = let n : NetworkParts = net k in let v : Known = first_view k in let b₁ = blank (length n.edges / 64 + 1) in let b₂ = blank (length n.edges / 64 + 2) in
+  starts ws xs wide blank deep some_seat few small = let n : NetworkParts = net k in let v : Known = first_view k in let b₁ = blank (length n.edges / 64 + 16) in let b₂ = blank (length n.edges / 64 + 32) in
       let one : (j : ℕ) (d : Known) → get_elem? (v ∷ []) j ≡ some d → v ≡ d = λ j d h. ⊎_elim (λ (t : get_elem? [] j ≡ some d). absurd (some-ne-none d (sym t))) (λ (t : v ≡ d). t) (at_snoc [] v d j h) in record {
         wide = wide;
         deep = length-map xs (λ (x : ℕ). some x) ∙ deep;

@@ -5,7 +5,7 @@ use Rattle.atomic_table.specs.Seated.{TableId}
 use Rattle.lmt_network.specs.Network.{NetworkParts}
 use Rattle.edge_marks.specs.declared.view.Phase.TheVariants.{Idle}
 use Rattle.edge_marks.specs.declared.view.Known.{Known}
-use Rattle.edge_marks.specs.Words.{mark_of}
+use Rattle.edge_marks.specs.Words.{mark_of, mark_words}
 use Rattle.edge_marks.specs.Rule.{weight}
 
 -- a seat: the table that it belongs to, its number there, and what it knows
@@ -45,7 +45,7 @@ pub record IsSeated (known : Known) (carried : List (ℕ × ℕ)) (slot : ℕ) (
   pub noted : known.noted ≡ true
   pub idle : known.phase ≡ Idle
   pub splits : known.splits ≡ length spare
-  pub wide : length bits ≡ length known.net.edges / 64 + 1
+  pub wide : length bits ≡ mark_words known.net
   pub bits_are : (e : ℕ) → e < length known.net.edges → mark_of bits e ≡ weight (has_number e known.tried)
-  pub blank : All (λ row. row.items ≡ replicate (length known.net.edges / 64 + 1) 0) spare
+  pub blank : All (λ row. row.items ≡ replicate (mark_words known.net) 0) spare
   pub few : slot + known.splits ≤ 64

@@ -1,9 +1,9 @@
--- The rule of the marks.
--- The words are the mark words, with a bit for each edge that is 1 once the edge is killed, and after them two counters:
--- of the kills that have begun, and of those that have finished. Each seat has a slot, its note. It holds the edge that the
--- seat's step is for, where a step of a word cannot tell which. Notes stand at each 32nd slot, 128 bytes apart, so that seats
--- write theirs without a cache line in common.
-use Rattle.std.specs.Prelude.{◌≡◌, ◌≢◌, ◌⊎◌, ℕ, zero, suc, ◌+◌, ◌*◌, ◌/◌, ◌-◌, ◌<◌, ◌≤◌, Bool, true, false, eqb, cond, List, [], ◌∷◌, ◌++◌, length, slice_index, AllPairs, Contains}
+-- The rule of the marks: what holds between any two steps of any seats.
+-- It speaks of the words (`Words`) and of the views of all seats. A view is what is known of a seat in proofs; only the
+-- seat's own steps change it, as `Plays` says. Beside its view each seat has a note, a slot of its own in which it writes
+-- the edge that its next step is for, where a step of a word cannot tell which. Notes stand at each 32nd slot, 128 bytes
+-- apart, so that seats write theirs without a cache line in common.
+use Rattle.std.specs.Prelude.{◌≡◌, ◌≢◌, ◌⊎◌, ℕ, zero, suc, ◌+◌, ◌*◌, ◌/◌, ◌-◌, ◌^◌, ◌<◌, ◌≤◌, Bool, true, false, eqb, cond, List, [], ◌∷◌, ◌++◌, length, slice_index, AllPairs, Contains}
 use mathlib.Core.Option.{some}
 use lib.ListN.{get_elem?}
 use Rattle.atomic_table.specs.Table.{State}
@@ -16,15 +16,15 @@ use Rattle.edge_marks.specs.declared.view.Pass.{Pass}
 use Rattle.edge_marks.specs.declared.view.Pass.TheVariants.{NoPass, AtFirst, InPass}
 use Rattle.edge_marks.specs.declared.view.Known.{Known}
 use Rattle.edge_marks.specs.declared.view.About.{About}
-use Rattle.edge_marks.specs.Words.{bit_in, mark_of}
+use Rattle.edge_marks.specs.Words.{bit_in, mark_of, mark_words, begun_word, finished_word, word_count, most_seats}
 
 -- how many kills have begun
 abbrev pub begun : NetworkParts → List ℕ → ℕ
-begun n ws = slice_index ws (length n.edges / 64 + 1)
+begun n ws = slice_index ws (begun_word n)
 
 -- how many kills have finished
 abbrev pub finished : NetworkParts → List ℕ → ℕ
-finished n ws = slice_index ws (length n.edges / 64 + 2)
+finished n ws = slice_index ws (finished_word n)
 
 -- the edges below k that are not killed, in their order
 abbrev pub unkilled : ℕ → List ℕ → List ℕ
@@ -38,10 +38,11 @@ first_known n seats = record { net = n; seen = []; tried = []; phase = Idle; pas
 abbrev pub first_view : About → Known
 first_view k = first_known k.net.value k.seats
 
--- the edge e is one that a seat that has tried these edges may be killing
+-- the edge e is no hull edge, no closed edges have it, and it is among the edges tried
 abbrev pub IsAim : NetworkParts → List ℕ → ℕ → Type 0
 IsAim n tried e = (e < length n.edges) × (¬ IsHullNumber n e) × IsDead n e × Contains tried e
 
+-- a seat may begin to kill such an edge alone; where it has set the bit, the edge is killed
 abbrev pub PhaseHolds : NetworkParts → List ℕ → List ℕ → Phase → Type 0
 PhaseHolds n ws tried Idle = Unit {0}
 PhaseHolds n ws tried (Begun e) = IsAim n tried e
@@ -49,8 +50,9 @@ PhaseHolds n ws tried (Marked e) = IsAim n tried e × (0 < mark_of ws e)
 
 -- each load gave the value that its mark word has now
 abbrev pub ArePresent : NetworkParts → List ℕ → List Loaded → Type 0
-ArePresent n ws loads = (l : Loaded) → Contains loads l → (l.word < length n.edges / 64 + 1) × (slice_index ws l.word ≡ l.value)
+ArePresent n ws loads = (l : Loaded) → Contains loads l → (l.word < mark_words n) × (slice_index ws l.word ≡ l.value)
 
+-- where a pass began when b kills had begun, and none has begun since, all of them have finished, and its loads are present
 abbrev pub PassHolds : NetworkParts → List ℕ → Pass → Type 0
 PassHolds n ws NoPass = Unit {0}
 PassHolds n ws (AtFirst b) = b ≤ begun n ws
@@ -75,9 +77,11 @@ HadSupport n loads e = (l : ℕ) × (r : ℕ) × IsMinimalPair n e l r × ((f : 
 abbrev pub IsJudged : NetworkParts → List Loaded → ℕ → Type 0
 IsJudged n loads e = IsHullNumber n e ⊎ (WasKilled loads e ⊎ HadSupport n loads e)
 
+-- A load of `begun` settles its seat where it ends a pass in which each edge was judged.
 abbrev pub AreJudged : NetworkParts → List Loaded → Type 0
 AreJudged n loads = (e : ℕ) → e < length n.edges → IsJudged n loads e
 
+-- 1 in the midst of a kill
 abbrev pub busy : Phase → ℕ
 busy Idle = 0
 busy (Begun e) = 1
@@ -90,15 +94,20 @@ weight true = 1
 -- What the rule says of one view.
 pub record ViewHolds (n : NetworkParts) (ws : List ℕ) (d : Known) : Type 0 where
   pub net_is : d.net ≡ n
+  -- each edge seen is killed
   pub seen_killed : (e : ℕ) → Contains d.seen e → (e < length n.edges) × (0 < mark_of ws e)
+  -- the edges tried are distinct edges, each killed but the one that the seat has only begun to kill
   pub tried_below : (e : ℕ) → Contains d.tried e → e < length n.edges
   pub tried_killed : (e : ℕ) → Contains d.tried e → ¬ (d.phase ≡ Begun e) → 0 < mark_of ws e
   pub tried_once : AllPairs (λ e f. e ≢ f) d.tried
   pub aim : PhaseHolds n ws d.tried d.phase
   pub in_pass : PassHolds n ws d.pass
+  -- where the seat is settled, the edges that are not killed are the live ones
   pub quiet : d.settled ≡ true → AreLive n (unkilled (length n.edges) ws)
+  -- no fewer kills have begun than the seat knows of
   pub low_is : d.low ≤ begun n ws
 
+-- the sum over all views
 abbrev pub total : (Known → ℕ) → List Known → ℕ
 total f [] = 0
 total f (d ∷ ds) = f d + total f ds
@@ -114,16 +123,19 @@ splits_of d = d.splits
 
 -- The rule, for the network and the number of seats that the marks were opened with.
 pub record MarksHold (k : About) (s : State ℕ Known) : Type 0 where
-  pub wide : length s.words ≡ length k.net.value.edges / 64 + 3
+  pub wide : length s.words ≡ word_count k.net.value
   pub deep : length s.homes ≡ k.seats * 32
-  pub few : (k.seats ≤ 65) × (length k.net.value.edges < 4294967296)
+  pub few : (k.seats ≤ most_seats) × (length k.net.value.edges < 2 ^ 32)
   -- no closed edges have a killed one
   pub safe : (e : ℕ) → e < length k.net.value.edges → 0 < mark_of s.words e → IsDead k.net.value e
   -- the bits of no edge are 0
-  pub spare : (e : ℕ) → length k.net.value.edges ≤ e → e / 64 < length k.net.value.edges / 64 + 1 → mark_of s.words e ≡ 0
+  pub spare : (e : ℕ) → length k.net.value.edges ≤ e → e / 64 < mark_words k.net.value → mark_of s.words e ≡ 0
   pub each : (j : ℕ) (d : Known) → get_elem? s.views j ≡ some d → ViewHolds k.net.value s.words d
+  -- the kills that have begun and not finished are those that seats are in the midst of
   pub open_kills : finished k.net.value s.words + total is_busy s.views ≡ begun k.net.value s.words
+  -- the kills that have begun are the tries of all seats
   pub kills : begun k.net.value s.words ≡ total tries s.views
+  -- the seats there are, and those that they may still split off, are as many as the marks were opened with
   pub seated : length s.views + total splits_of s.views ≡ k.seats
   -- the notes of the seats that a seat may split off are at home, and its own is until it takes it
   pub noted : (j : ℕ) (d : Known) → get_elem? s.views j ≡ some d → (d.slot + d.splits < k.seats)

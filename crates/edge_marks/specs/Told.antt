@@ -1,5 +1,5 @@
--- What `examine` and `settle` tell, by the loads of the call.
-use Rattle.std.specs.Prelude.{◌≡◌, ◌≢◌, ◌⊎◌, ℕ, ◌+◌, ◌/◌, ◌<◌, true, List, [], ◌∷◌, ◌++◌, length, map, Any, Contains}
+-- What a call tells of its seat: what the seat still knows, and what `examine` and `settle` have found, by the loads of the call.
+use Rattle.std.specs.Prelude.{◌≡◌, ◌≢◌, ◌⊎◌, ℕ, ◌+◌, ◌/◌, ◌<◌, ◌≤◌, true, List, [], ◌∷◌, ◌++◌, length, map, Any, Contains}
 use Rattle.lmt_network.specs.Network.{NetworkParts}
 use Rattle.lmt_network.specs.Numbers.{IsHullNumber, IsMinimalPair, IsOnLeft, IsOnRight, IsSideOf, IsOtherSide, IsBroken}
 use Rattle.edge_marks.specs.declared.answer.Found.{Found}
@@ -9,8 +9,16 @@ use Rattle.edge_marks.specs.declared.answer.Settle.TheVariants.{Quiet, Lone, Mov
 use Rattle.edge_marks.specs.declared.view.Made.{Made}
 use Rattle.edge_marks.specs.declared.view.Made.TheVariants.{Load}
 use Rattle.edge_marks.specs.declared.view.Known.{Known}
-use Rattle.edge_marks.specs.Words.{bit_in}
+use Rattle.edge_marks.specs.Words.{bit_in, begun_word, finished_word}
 use Rattle.edge_marks.specs.Plays.{looked_view, opened_view, compared_view, settled_view}
+
+-- What a seat knew it still knows, and the steps of the calls in between stand behind its steps.
+pub record Remembers (d d' : Known) : Type 0 where
+  pub seen : (e : ℕ) → Contains d.seen e → Contains d'.seen e
+  pub tried : (e : ℕ) → Contains d.tried e → Contains d'.tried e
+  pub settled : d.settled ≡ true → d'.settled ≡ true
+  pub low : d.low ≤ d'.low
+  pub steps : (made : List Made) × (d'.steps ≡ d.steps ++ made)
 
 -- a load that asks for an edge, and the value of the edge's word that it gave
 pub record Asked : Type 0 where
@@ -76,11 +84,11 @@ FoundBy n e ls seen Unsupported = IsBroken n seen e
 
 -- the view after the two loads that begin a pass
 abbrev pub entered : NetworkParts → ℕ → ℕ → Known → Known
-entered n b f d = compared_view (length n.edges / 64 + 2) f (opened_view (length n.edges / 64 + 1) b d)
+entered n b f d = compared_view (finished_word n) f (opened_view (begun_word n) b d)
 
 -- what `settle` has found, between the views d and d'
 abbrev pub SettledBy : NetworkParts → Known → Known → Settle → Type 0
-SettledBy n d d' Quiet = (b : ℕ) × (ls : List Asked) × (d' ≡ settled_view (length n.edges / 64 + 1) b (looked_all ls (entered n b b d))) × (d'.settled ≡ true)
+SettledBy n d d' Quiet = (b : ℕ) × (ls : List Asked) × (d' ≡ settled_view (begun_word n) b (looked_all ls (entered n b b d))) × (d'.settled ≡ true)
 SettledBy n d d' (Lone e) = (b : ℕ) × (ls : List Asked) × (d' ≡ looked_all ls (entered n b b d)) × (e < length n.edges) × (¬ IsHullNumber n e) × FoundLive ls e × IsBroken n d'.seen e × (¬ Contains d'.tried e)
-SettledBy n d d' (Moved before after) = (ls : List Asked) × (d' ≡ settled_view (length n.edges / 64 + 1) after (looked_all ls (entered n before before d))) × (before < after)
+SettledBy n d d' (Moved before after) = (ls : List Asked) × (d' ≡ settled_view (begun_word n) after (looked_all ls (entered n before before d))) × (before < after)
 SettledBy n d d' (InFlight begun finished) = (d' ≡ entered n begun finished d) × (begun ≢ finished)

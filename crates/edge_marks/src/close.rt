@@ -14,7 +14,7 @@ use std::alloc::Global;
 
 // Drops the flags of the edges whose bit is set.
 fn drop_killed(closed: &Closed<u32, Global>, flags: &mut Flags, count: u32)
-    requires words { IsFull closed.now.words × (slots_len closed.now.words ≡ count / 64 + 3) }
+    requires words { IsFull closed.now.words × (count / 64 < slots_len closed.now.words) }
     requires all { flags.old ≡ replicate count true }
     ensures count { length flags.new ≡ count }
     ensures each { (e : ℕ) → e < count → slice_index_or flags.new e false ≡ eqb (mark_of (slots_items closed.now.words) e) 0 }
@@ -39,7 +39,9 @@ fn put_away(mut closed: Closed<u32, Global>)
 }
 
 impl Marks {
-    /// The flags of the edges that no seat has killed. Takes no memory.
+    /// Ends the marks: the flags of the edges that no seat has killed. Each member of every closed list is
+    /// live in them, and no edge that the seat has seen killed; where the seat is settled, the live edges are
+    /// the live list. Takes no memory.
     pub fn close(self, seat: Seat) -> Flags
         requires { Belongs self seat }
         ensures count { length result ≡ length self.net.edges }

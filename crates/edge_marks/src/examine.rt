@@ -2,7 +2,7 @@
 ghost use Rattle.std.specs.Prelude.{◌≡◌, ◌≢◌, ℕ, ◌<◌, true, false, List, length, Contains, IfSome, IfNone};
 ghost use Rattle.lmt_network.specs.Numbers.{IsMinimalPair, IsOnLeft, IsOnRight};
 ghost use Rattle.edge_marks.specs.Handles.{IsSameSeat, Belongs};
-ghost use Rattle.edge_marks.specs.Told.{Asked, looked_all, FoundLive, AskForSidesOf, AskForSides, HasLiveSides, HasKilledSide, IsLivePair, IsBrokenWith, FoundBy, MakesLoads};
+ghost use Rattle.edge_marks.specs.Told.{Remembers, Asked, looked_all, FoundLive, AskForSidesOf, AskForSides, HasLiveSides, HasKilledSide, IsLivePair, IsBrokenWith, FoundBy, MakesLoads};
 
 use crate::answer::{Found, Look};
 use crate::handles::{Marks, Seat};
@@ -84,11 +84,14 @@ impl Marks {
         None
     }
 
-    /// Looks for a support of the edge: a locally minimal pair with no killed side but maybe the edge.
+    /// Looks for a support of the edge: a triangle on its left and one on its right between which it is
+    /// locally minimal, each other side of which was loaded live in this call (Dickerson and Montague,
+    /// 1996). Unsupported where the seat has seen killed another side of each locally minimal pair.
     pub fn examine(&self, net: &Network, seat: &mut Seat, e: u32) -> Found
         requires belongs { Belongs self.now seat.old × (net.now ≡ self.now.net) }
         requires inside { e < length self.now.net.edges }
         ensures seat { IsSameSeat seat.old seat.new × Belongs self.now seat.new }
+        ensures kept { Remembers seat.old.known seat.new.known }
         ensures told { (ls : List Asked) × (seat.new.known ≡ looked_all ls seat.old.known) × AskForSides self.now.net e ls
             × FoundBy self.now.net e ls seat.new.known.seen result }
         ensures steps { (ls : List Asked) × MakesLoads ls seat.old.known seat.new.known × AskForSides self.now.net e ls

@@ -5,8 +5,11 @@ use lmt_network::Flags;
 use std::alloc::Global;
 use std::marker::Model;
 
-// Notes stand at each 32nd slot.
+// Notes stand at each 32nd slot of four bytes, and counters 16 words of eight bytes from what stands beside
+// them, so that threads write them without a cache line in common.
 pub(crate) const NOTE_STEP: usize = 32;
+
+pub(crate) const COUNTER_STEP: usize = 16;
 
 /// Which edges of a network are killed, a bit for each. Threads read it and kill edges through it, each
 /// with a seat of its own, and none waits for another.
@@ -23,13 +26,14 @@ pub struct Marks {
 impl Model for Marks {
     ghost use Rattle.std.specs.Prelude.{◌≡◌, ◌+◌, ◌/◌, ◌<◌, ◌^◌, true, length, replicate};
     ghost use Rattle.edge_marks.specs.Handles.{MarksView};
+    ghost use Rattle.edge_marks.specs.Words.{word_count};
 
     ghost Value = { MarksView };
 
     ghost view = { λ m. record { table = m.table.shared.table_id; net = m.table.shared.key.net.value; seats = m.table.shared.key.seats } };
 
     ghost invariant = { λ m. (m.count ≡ length m.table.shared.key.net.value.edges)
-        × (m.table.shared.table_id.words ≡ m.count / 64 + 3)
+        × (m.table.shared.table_id.words ≡ word_count m.table.shared.key.net.value)
         × (m.flags ≡ replicate m.count true) };
 }
 

@@ -3,8 +3,10 @@ ghost use Rattle.std.specs.Prelude.{◌≡◌, ℕ, ◌<◌, ◌≤◌, length, 
 ghost use Rattle.edge_marks.specs.Rule.{first_known};
 ghost use Rattle.edge_marks.specs.Handles.{Belongs, IsSameSeat};
 ghost use Rattle.edge_marks.specs.Plays.{noted_view, left_view, right_view};
+ghost use Rattle.edge_marks.specs.Told.{Remembers};
+ghost use Rattle.edge_marks.specs.Words.{most_seats};
 
-use crate::handles::{Marks, NOTE_STEP, Seat};
+use crate::handles::{COUNTER_STEP, Marks, NOTE_STEP, Seat};
 use crate::plays::{Cut, TakeNote};
 use crate::view::About;
 use atomic_table::Table;
@@ -27,17 +29,19 @@ fn blank_rows(alloc: Global, count: usize, len: usize) -> Result<Vec<Vec<u64>>, 
 }
 
 impl Marks {
-    /// The marks of the network, with each edge live, and the first of `seats` seats.
+    /// The marks of the network, with each edge live, and the first of at most `seats` seats, from 1 to 65.
+    /// Takes all the memory that the marks and the seats will need.
     pub fn open(alloc: Global, net: &Network, seats: u32) -> Result<(Marks, Seat), NoMemory>
         requires some { 0 < seats }
-        requires few { seats ≤ 65 }
+        requires few { seats ≤ most_seats }
         ensures { IfOk result (λ t. (t.0.net ≡ net.now) × (t.0.seats ≡ seats) × Belongs t.0 t.1
             × (t.1.known ≡ noted_view (first_known net.now seats))) }
     {
         let count = net.edges();
-        let width = (count / 64 + 1) as usize;
+        let width = (count / 64) as usize + 1;
+        let len = (count / 64) as usize + 3 * COUNTER_STEP;
         let flags = Flags::all(alloc, count)?;
-        let words = Vec::from_elem(alloc, 0u64, width + 2)?;
+        let words = Vec::from_elem(alloc, 0u64, len)?;
         let notes = Vec::from_elem(alloc, 0u32, seats as usize * NOTE_STEP)?;
         let bits = Vec::from_elem(alloc, 0u64, width)?;
         let spare = blank_rows(alloc, (seats - 1) as usize, width)?;
@@ -64,11 +68,14 @@ impl Marks {
         Ok((marks, seat))
     }
 
-    /// A new seat, which has seen killed what the old one has. Takes no memory.
+    /// A new seat, which has seen killed what the old one has, has tried no edge and may split none off.
+    /// The old one may split off one less. Takes no memory.
     pub fn split(&self, seat: &mut Seat) -> Seat
         requires belongs { Belongs self.now seat.old }
         requires some_left { 0 < seat.old.known.splits }
-        ensures old { IsSameSeat seat.old seat.new × Belongs self.now seat.new × (seat.new.known ≡ left_view seat.old.known) }
+        ensures seat { IsSameSeat seat.old seat.new × Belongs self.now seat.new }
+        ensures kept { Remembers seat.old.known seat.new.known }
+        ensures old { seat.new.known ≡ left_view seat.old.known }
         ensures new { Belongs self.now result × (result.known ≡ noted_view (right_view seat.old.known)) }
     {
         let Some(bits) = seat.spare.pop() else {

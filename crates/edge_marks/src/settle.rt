@@ -6,7 +6,8 @@ ghost use Rattle.edge_marks.specs.declared.view.Pass.TheVariants.{InPass};
 ghost use Rattle.edge_marks.specs.Rule.{AreJudged};
 ghost use Rattle.edge_marks.specs.Handles.{IsSameSeat, Belongs};
 ghost use Rattle.edge_marks.specs.Plays.{settled_view};
-ghost use Rattle.edge_marks.specs.Told.{Asked, looked_all, FoundLive, WasJudged, entered, SettledBy};
+ghost use Rattle.edge_marks.specs.Words.{begun_word, most_kills};
+ghost use Rattle.edge_marks.specs.Told.{Remembers, Asked, looked_all, FoundLive, WasJudged, entered, SettledBy};
 
 use crate::answer::{Found, Look, Settle};
 use crate::handles::{Marks, Seat};
@@ -19,11 +20,11 @@ impl Marks {
         requires { Belongs self.now seat.old }
         ensures seat { IsSameSeat seat.old seat.new × Belongs self.now seat.new }
         ensures view { (seat.new.known ≡ entered self.now.net result.0 result.1 seat.old.known)
-            × (seat.old.known.low ≤ result.0) × (result.0 ≤ 65 * length self.now.net.edges) }
+            × (seat.old.known.low ≤ result.0) × (result.0 ≤ most_kills self.now.net) }
     {
         let shared = &self.table.shared;
         let begun = shared.load::<OpenPass>(&mut seat.place, self.begun());
-        let finished = shared.load::<ReadFinished>(&mut seat.place, self.begun() + 1);
+        let finished = shared.load::<ReadFinished>(&mut seat.place, self.finished());
         (begun, finished)
     }
 
@@ -32,8 +33,8 @@ impl Marks {
         requires belongs { Belongs self.now seat.old }
         requires judged { (b : ℕ) × (loads : List Loaded) × (seat.old.known.pass ≡ InPass b loads) × AreJudged self.now.net loads }
         ensures seat { IsSameSeat seat.old seat.new × Belongs self.now seat.new }
-        ensures view { (seat.new.known ≡ settled_view (length self.now.net.edges / 64 + 1) result seat.old.known)
-            × (seat.old.known.low ≤ result) × (result ≤ 65 * length self.now.net.edges) }
+        ensures view { (seat.new.known ≡ settled_view (begun_word self.now.net) result seat.old.known)
+            × (seat.old.known.low ≤ result) × (result ≤ most_kills self.now.net) }
     {
         let shared = &self.table.shared;
         shared.load::<SettlePass>(&mut seat.place, self.begun())
@@ -60,12 +61,16 @@ impl Marks {
         }
     }
 
-    /// Goes once through the edges, and finds out whether those that are not killed are the live ones.
+    /// Finds out whether the edges that are not killed are the live list. It loads `begun` and `finished`:
+    /// InFlight where these differ. Else it goes through the edges, ascending: Lone where one is no hull
+    /// edge, was loaded live and is found without a support. Else it loads `begun` again: Moved where more
+    /// kills have begun, and Quiet where none has. After Quiet the seat is settled, for good.
     pub fn settle(&self, net: &Network, seat: &mut Seat) -> Settle
         requires { Belongs self.now seat.old × (net.now ≡ self.now.net) }
         ensures seat { IsSameSeat seat.old seat.new × Belongs self.now seat.new }
+        ensures kept { Remembers seat.old.known seat.new.known }
         ensures told { SettledBy self.now.net seat.old.known seat.new.known result }
-        ensures low { (seat.old.known.low ≤ seat.new.known.low) × (seat.new.known.low ≤ 65 * length self.now.net.edges) }
+        ensures low { (seat.old.known.low ≤ seat.new.known.low) × (seat.new.known.low ≤ most_kills self.now.net) }
         ensures later { (before after : ℕ) → result ≡ Settle.Moved before after → seat.old.known.low < seat.new.known.low }
     {
         let (begun, finished) = self.open_pass(seat);

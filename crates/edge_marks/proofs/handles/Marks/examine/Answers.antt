@@ -3,12 +3,18 @@ use Rattle.std.proofs.lemmas.List.Elements.{Contains-get_or}
 use Rattle.lmt_network.specs.Network.{NetworkParts}
 use Rattle.lmt_network.specs.Numbers.{IsOnLeft}
 use Rattle.edge_marks.proofs.Examines.{ask_both, one_left_broken, all_lefts_broken, live_pair_back}
+use Rattle.edge_marks.specs.Told.{Remembers}
+use Rattle.edge_marks.proofs.Remembering.{remembers_looks}
 use Rattle.edge_marks.proofs.Loads.{looked_on, steps_of, tried_of}
 use Rattle.edge_marks.proofs.handles.Marks.examine.Goals as goal
 
 pub partner-requires-clause-on_left : goal.partner-requires-clause-on_left
 partner-requires-clause-on_left c = let ls = c.left-l-items.result.now in
     subst (λ (n : NetworkParts). IsOnLeft n c.args.e (get_or ls c.loop-l.l-index 0)) c.requires.belongs.1 ((c.left-l-items.ensures.members _).0 (Contains-get_or ls c.loop-l.l-index 0 c.loop-l-test.true))
+
+pub returns-in-Some-clause-kept : goal.returns-in-Some-clause-kept
+returns-in-Some-clause-kept c = let old = c.args.seat.now.known in let so = c.loop-l.invariant.2 in let t = c.in-Some.ensures.told in
+    subst (Remembers old) (sym (looked_on old c.loop-l.seat.known c.partner.new.seat.known so.0 t.0 so.1 t.1)) (remembers_looks (so.0 ++ t.0) old)
 
 pub returns-in-Some-clause-told : goal.returns-in-Some-clause-told
 returns-in-Some-clause-told c = let n = c.args.self.now.net in let l : ℕ = get_or c.left-l-items.result.now c.loop-l.l-index 0 in let so = c.loop-l.invariant.2 in let t = c.in-Some.ensures.told in (
@@ -32,6 +38,9 @@ loop-l-preserved c = let n = c.args.self.now.net in let so = c.loop-l.invariant.
   c.partner.ensures.seat.1,
   one_left_broken n c.args.e c.left-l-items.result.now c.args.seat.now.known c.loop-l.seat.known c.partner.new.seat.known c.loop-l.l-index so t.0 t.1 t.2 t.4,
 )
+
+pub returns-clause-kept : goal.returns-clause-kept
+returns-clause-kept c = let old = c.args.seat.now.known in let so = c.loop-l.invariant.2 in subst (Remembers old) (sym so.1) (remembers_looks so.0 old)
 
 pub returns-clause-told : goal.returns-clause-told
 returns-clause-told c = let n = c.args.self.now.net in let ls = c.left-l-items.result.now in let so = c.loop-l.invariant.2 in let l = c.loop-l-test.false in

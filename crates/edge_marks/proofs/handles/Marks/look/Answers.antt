@@ -3,6 +3,8 @@ use Rattle.lmt_network.specs.Network.{NetworkParts}
 use Rattle.lmt_network.specs.Numbers.{AreLive, IsDead}
 use Rattle.edge_marks.specs.Handles.{SeatView, MarksView, IsSeated, note_of}
 use Rattle.edge_marks.specs.Plays.{Sitting, looked_view, LookTells}
+use Rattle.edge_marks.specs.Told.{Remembers}
+use Rattle.edge_marks.proofs.Remembering.{remembers_look}
 use Rattle.edge_marks.proofs.Answering.{look_killed, killed_look, look_live}
 use Rattle.edge_marks.proofs.Looks.{looks}
 use Rattle.edge_marks.proofs.Sitters.{meets, stays, note_alone, note_written, seated_looked, look_told}
@@ -34,6 +36,10 @@ returns-clause-seat c = stays _ _ c.args.self.now _ _ _ c.seat.view_is c.require
 
 pub returns-clause-step : goal.returns-clause-step
 returns-clause-step c = (c.load-word.result, c.of.ensures, ap (λ (m : Sitting). m.0) (told c).0 ∙ ap (λ (v : SeatView). looked_view c.args.e c.load-word.result v.known) c.seat.view_is)
+
+pub returns-clause-kept : goal.returns-clause-kept
+returns-clause-kept c = subst (Remembers c.args.seat.now.known) (sym (ap (λ (m : Sitting). m.0) (told c).0 ∙ ap (λ (v : SeatView). looked_view c.args.e c.load-word.result v.known) c.seat.view_is))
+    (remembers_look c.args.e c.load-word.result c.args.seat.now.known)
 
 pub returns-clause-dead : goal.returns-clause-dead
 returns-clause-dead c killed = subst (λ (n : NetworkParts). IsDead n c.args.e) (ap (λ (v : SeatView). v.known.net) c.seat.view_is ∙ c.requires.belongs.1) ((told c).1.dead (look_killed _ (sym c.of.ensures ∙ killed)))

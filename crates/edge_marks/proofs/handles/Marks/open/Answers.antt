@@ -8,7 +8,7 @@ use Rattle.edge_marks.proofs.Seats.{starts, notes}
 use Rattle.edge_marks.proofs.handles.Marks.open.Goals as goal
 
 pub new-requires : goal.new-requires
-new-requires c = let k : About = record { net = c.of.result; seats = c.args.seats } in let ws : List ℕ = c.as_slice.result.now in let n : ℕ = length k.net.value.edges / 64 + 3 in
+new-requires c = let k : About = record { net = c.of.result; seats = c.args.seats } in let ws : List ℕ = c.as_slice.result.now in let n : ℕ = length k.net.value.edges / 64 + 48 in
     let same : length k.net.value.edges ≡ length c.args.net.now.edges = first_of (search rules, grind (arith, common_steps)) in
     let words : ws ≡ replicate n 0 = first_of (search rules, grind (arith, common_steps)) in
     starts k ws c.in_ok-notes.notes.items (ap length words ∙ length-replicate n 0) (λ i. ap (λ (l : List ℕ). get_or l i 0) words ∙ blank_word n i) (first_of (search rules, grind (arith, common_steps))) c.requires.some c.requires.few

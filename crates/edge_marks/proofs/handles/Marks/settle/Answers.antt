@@ -1,11 +1,29 @@
-use Rattle.std.proofs.Common.{◌≡◌, ℕ, ◌+◌, ◌/◌, ◌≤◌, ◌++◌, map, length, sym, ap, ◌∙◌, refl, arith}
+use Rattle.std.proofs.Common.{◌≡◌, ℕ, ◌+◌, ◌/◌, ◌≤◌, ◌++◌, map, length, sym, ap, ◌∙◌, subst, refl, arith}
 use Rattle.lmt_network.specs.Network.{NetworkParts}
 use Rattle.edge_marks.specs.declared.view.Known.{Known}
 use Rattle.edge_marks.specs.Plays.{settled_view}
-use Rattle.edge_marks.specs.Told.{looked_all, entered}
+use Rattle.edge_marks.specs.Told.{Remembers, looked_all, entered}
+use Rattle.edge_marks.proofs.Remembering.{remembers_on, remembers_looks, remembers_entry, remembers_pass}
 use Rattle.edge_marks.proofs.Loads.{looked_on, low_kept, word_loaded, live_back}
 use Rattle.edge_marks.proofs.Judges.{one_judged, judged_words, pass_is, quiet_now}
 use Rattle.edge_marks.proofs.handles.Marks.settle.Goals as goal
+
+pub returns-then-begun-finished-clause-kept : goal.returns-then-begun-finished-clause-kept
+returns-then-begun-finished-clause-kept c = let old = c.args.seat.now.known in let v = c.open_pass-begun.ensures.view in
+    subst (Remembers old) (sym v.0) (remembers_entry c.args.self.now.net c.open_pass-begun.result.0 c.open_pass-begun.result.1 old v.1)
+
+pub returns-then-is_lone-clause-kept : goal.returns-then-is_lone-clause-kept
+returns-then-is_lone-clause-kept c = let old = c.args.seat.now.known in let mid = c.open_pass-begun.new.seat.known in let new = c.is_lone.new.seat.known in let v = c.open_pass-begun.ensures.view in let so = c.loop-e.invariant.2 in let t = c.is_lone.ensures.told in
+    remembers_on old mid new (subst (Remembers old) (sym v.0) (remembers_entry c.args.self.now.net c.open_pass-begun.result.0 c.open_pass-begun.result.1 old v.1))
+    (subst (Remembers mid) (sym (looked_on mid c.loop-e.seat.known new so.0 t.0 so.1 t.1)) (remembers_looks (so.0 ++ t.0) mid))
+
+pub returns-then-begun-last-clause-kept : goal.returns-then-begun-last-clause-kept
+returns-then-begun-last-clause-kept c = let v = c.open_pass-begun.ensures.view in let so = c.loop-e.invariant.2 in let l = c.end_pass-last.ensures.view in
+    remembers_pass c.args.self.now.net c.open_pass-begun.result.0 c.open_pass-begun.result.1 c.end_pass-last.result so.0 _ _ _ _ v.0 v.1 so.1 l.0 l.1
+
+pub returns-clause-kept : goal.returns-clause-kept
+returns-clause-kept c = let v = c.open_pass-begun.ensures.view in let so = c.loop-e.invariant.2 in let l = c.end_pass-last.ensures.view in
+    remembers_pass c.args.self.now.net c.open_pass-begun.result.0 c.open_pass-begun.result.1 c.end_pass-last.result so.0 _ _ _ _ v.0 v.1 so.1 l.0 l.1
 
 pub returns-then-is_lone-clause-told : goal.returns-then-is_lone-clause-told
 returns-then-is_lone-clause-told c = let n = c.args.self.now.net in let b = c.open_pass-begun.result.0 in let so = c.loop-e.invariant.2 in let t = c.is_lone.ensures.told in let r = t.3 c.if-is_lone.true in
@@ -49,8 +67,8 @@ returns-clause-told c = let n = c.args.self.now.net in let b = c.open_pass-begun
     let mid = so.1 ∙ ap (looked_all so.0) (c.open_pass-begun.ensures.view.0 ∙ ap (λ (z : ℕ). entered n b z c.args.seat.now.known) (sym same)) in
     let low : b ≤ x = (let l = c.end_pass-last.ensures.view.1 in let k : c.loop-e.seat.known.low ≡ b = ap (λ (d : Known). d.low) mid ∙ low_kept so.0 start in omega arith) in
     let is : x ≡ b = (let h = c.if-begun-last.false in omega arith) in
-    let now = c.end_pass-last.ensures.view.0 ∙ ap (λ (z : ℕ × Known). settled_view (length n.edges / 64 + 1) z.0 z.1) (λ i. (is i, mid i)) in
-    (b, so.0, now, ap (λ (d : Known). d.settled) now ∙ quiet_now (length n.edges / 64 + 1) b (looked_all so.0 start) (map word_loaded so.0) (pass_is n b b c.args.seat.now.known so.0 refl))
+    let now = c.end_pass-last.ensures.view.0 ∙ ap (λ (z : ℕ × Known). settled_view (length n.edges / 64 + 16) z.0 z.1) (λ i. (is i, mid i)) in
+    (b, so.0, now, ap (λ (d : Known). d.settled) now ∙ quiet_now (length n.edges / 64 + 16) b (looked_all so.0 start) (map word_loaded so.0) (pass_is n b b c.args.seat.now.known so.0 refl))
 
 pub returns-clause-low : goal.returns-clause-low
 returns-clause-low c = let so = c.loop-e.invariant.2 in let v = c.open_pass-begun.ensures.view in let v₁ = v.1 in let l = c.end_pass-last.ensures.view in let l₁ = l.1 in let l₂ = l.2 in

@@ -1,6 +1,8 @@
 use Rattle.std.proofs.Common.{◌≡◌, ◌+◌, ◌*◌, ◌<◌, [], ◌∷◌, sym, ap, ◌∙◌, subst, arith}
 use Rattle.edge_marks.specs.Handles.{SeatView, IsSeated}
-use Rattle.edge_marks.specs.Plays.{Sitting, right_view, noted_view}
+use Rattle.edge_marks.specs.Plays.{Sitting, left_view, right_view, noted_view}
+use Rattle.edge_marks.specs.Told.{Remembers}
+use Rattle.edge_marks.proofs.Remembering.{remembers_fork}
 use Rattle.edge_marks.proofs.Seats.{notes, splits}
 use Rattle.edge_marks.proofs.Sitters.{meets, seated_left, seated_right}
 use Rattle.edge_marks.proofs.handles.Marks.split.Goals as goal
@@ -18,6 +20,9 @@ load-requires c = let i = c.self.invariant in let i₁ = i.1 in let made = c.spl
   omega arith,
   notes c.self.inside.table.shared.key _ _ c.split_seat-place.result.me (ap (λ (m : Sitting). m.1) made) (ap (λ (m : Sitting). m.0.noted) made),
 )
+
+pub returns-clause-kept : goal.returns-clause-kept
+returns-clause-kept c = subst (Remembers c.args.seat.now.known) (sym (ap (λ (m : Sitting). m.0) c.split_seat-place.ensures.2 ∙ ap (λ (v : SeatView). left_view v.known) c.seat.view_is)) (remembers_fork c.args.seat.now.known)
 
 pub invariant_of-seat : goal.invariant_of-seat
 invariant_of-seat c = let row = c.in-Some.ensures in
