@@ -5,7 +5,7 @@ use Rattle.exact_predicates.specs.declared.point.Point.{Point}
 use Rattle.exact_predicates.specs.Plane.{orient}
 use Rattle.exact_predicates.proofs.IntSigns.{mul-nonneg, mul-pos, pos-from-mul}
 use Rattle.exact_predicates.proofs.Ring.{var, plus, less, times, ring}
-use Rattle.exact_predicates.proofs.Orientation.{coordinates, turn, orient_turned}
+use Rattle.exact_predicates.proofs.Orientation.{coordinates, orient_term, orient_turned}
 use Rattle.exact_predicates.proofs.HalfPlane.{cross, cross_swap, orient_back}
 
 cross_four : (ax ay bx by cx cy dx dy : ℤ) → cross ax ay cx cy *ℤ cross bx by dx dy ≡ (cross ax ay bx by *ℤ cross cx cy dx dy) +ℤ (cross ax ay dx dy *ℤ cross bx by cx cy)
@@ -29,7 +29,7 @@ turn_on ux uy xx xy yx yy zx zy hx hy hz xy_ yz =
 at_second : (p q r : Point) → orient p q r ≡ cross (q.x -ℤ p.x) (q.y -ℤ p.y) (r.x -ℤ q.x) (r.y -ℤ q.y)
 unfolding orient
 at_second p q r =
-    ring (coordinates (p ∷ q ∷ r ∷ [])) (turn 0 2 4)
+    ring (coordinates (p ∷ q ∷ r ∷ [])) (orient_term 0 2 4)
     (less (times (less (var 2) (var 0)) (less (var 5) (var 3))) (times (less (var 3) (var 1)) (less (var 4) (var 2))))
     (omega arith)
 
@@ -37,7 +37,7 @@ at_second p q r =
 at_first : (p q r : Point) → orient p q r ≡ cross (q.x -ℤ p.x) (q.y -ℤ p.y) (r.x -ℤ p.x) (r.y -ℤ p.y)
 unfolding orient
 at_first p q r =
-    ring (coordinates (p ∷ q ∷ r ∷ [])) (turn 0 2 4)
+    ring (coordinates (p ∷ q ∷ r ∷ [])) (orient_term 0 2 4)
     (less (times (less (var 2) (var 0)) (less (var 5) (var 1))) (times (less (var 3) (var 1)) (less (var 4) (var 0))))
     (omega arith)
 

@@ -6,7 +6,7 @@ use Rattle.std.proofs.Math.IntN.{*ℤ-zero}
 use Rattle.exact_predicates.specs.declared.point.Point.{Point}
 use Rattle.exact_predicates.specs.Plane.{orient}
 use Rattle.exact_predicates.proofs.Ring.{Term, var, num, plus, less, times, ring}
-use Rattle.exact_predicates.proofs.Orientation.{coordinates, turn, orient_four}
+use Rattle.exact_predicates.proofs.Orientation.{coordinates, orient_term, orient_four}
 use Rattle.exact_predicates.proofs.HalfPlane.{cross}
 
 -- three numbers with three weights
@@ -39,7 +39,7 @@ cross_weighed_y ax ay bx by cx cy =
 orient_from_third : (p q r : Point) → orient p q r ≡ cross (p.x -ℤ r.x) (p.y -ℤ r.y) (q.x -ℤ r.x) (q.y -ℤ r.y)
 unfolding orient
 orient_from_third p q r =
-    ring (coordinates (p ∷ q ∷ r ∷ [])) (turn 0 2 4)
+    ring (coordinates (p ∷ q ∷ r ∷ [])) (orient_term 0 2 4)
     (less (times (less (var 0) (var 4)) (less (var 3) (var 5))) (times (less (var 1) (var 5)) (less (var 2) (var 4))))
     (omega arith)
 
@@ -91,7 +91,7 @@ orient_difference : (s t p r : Point) → orient s t p -ℤ orient s t r ≡ cro
 unfolding orient
 orient_difference s t p r =
     ring (coordinates (s ∷ t ∷ p ∷ r ∷ []))
-    (less (turn 0 2 4) (turn 0 2 6))
+    (less (orient_term 0 2 4) (orient_term 0 2 6))
     (less (times (less (var 2) (var 0)) (less (var 5) (var 7))) (times (less (var 3) (var 1)) (less (var 4) (var 6))))
     (omega arith)
 

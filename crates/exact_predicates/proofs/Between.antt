@@ -5,7 +5,7 @@ use Rattle.std.proofs.Math.IntN.{zero-*ℤ, *ℤ-zero}
 use Rattle.exact_predicates.specs.declared.point.Point.{Point}
 use Rattle.exact_predicates.specs.Plane.{orient, dot, Precedes, IsBetween}
 use Rattle.exact_predicates.proofs.Ring.{var, num, plus, less, times, ring}
-use Rattle.exact_predicates.proofs.Orientation.{coordinates, turn, orient_turned, orient_swapped}
+use Rattle.exact_predicates.proofs.Orientation.{coordinates, orient_term, orient_turned, orient_swapped}
 use Rattle.exact_predicates.proofs.HalfPlane.{cross, IsForward, forward_x, forward_from, orient_back}
 use Rattle.exact_predicates.proofs.IntSigns.{square-nonneg, mul-nonneg, mul-pos, nonneg-from-mul, pos-from-mul}
 use Rattle.exact_predicates.proofs.Order.{Precedes-trans, Precedes-cases}
@@ -146,7 +146,7 @@ orient_between : (p q r : Point) → cross (r.x -ℤ p.x) (r.y -ℤ p.y) (q.x -�
 unfolding orient
 orient_between p q r =
     ring (coordinates (p ∷ q ∷ r ∷ []))
-    (plus (less (times (less (var 4) (var 0)) (less (var 3) (var 5))) (times (less (var 5) (var 1)) (less (var 2) (var 4)))) (turn 0 2 4))
+    (plus (less (times (less (var 4) (var 0)) (less (var 3) (var 5))) (times (less (var 5) (var 1)) (less (var 2) (var 4)))) (orient_term 0 2 4))
     (num (pos 0))
     (omega arith)
 

@@ -7,7 +7,7 @@ use Rattle.exact_predicates.specs.Plane.{orient, Precedes}
 use Rattle.exact_predicates.specs.PointSet.{point_at, IsPointSet}
 use Rattle.exact_predicates.specs.Hull.{IsHullPair, IsHull}
 use Rattle.exact_predicates.proofs.Ring.{var, less, times, ring}
-use Rattle.exact_predicates.proofs.Orientation.{coordinates, turn, orient_turned, orient_swapped}
+use Rattle.exact_predicates.proofs.Orientation.{coordinates, orient_term, orient_turned, orient_swapped}
 use Rattle.exact_predicates.proofs.HalfPlane.{cross, IsForward, cross_transitive, cross_swap, forward_from, turn_transitive}
 use Rattle.exact_predicates.proofs.Line.{orient-on_line}
 use Rattle.exact_predicates.proofs.Rings.{pair_of_place}
@@ -24,14 +24,14 @@ between_one_way ax ay bx by cx cy a b c ab bc ac =
 turn_into : (u v r : Point) → orient u v r ≡ cross (u.x -ℤ v.x) (u.y -ℤ v.y) (v.x -ℤ r.x) (v.y -ℤ r.y)
 unfolding orient
 turn_into u v r =
-    ring (coordinates (u ∷ v ∷ r ∷ [])) (turn 0 2 4)
+    ring (coordinates (u ∷ v ∷ r ∷ [])) (orient_term 0 2 4)
     (less (times (less (var 0) (var 2)) (less (var 3) (var 5))) (times (less (var 1) (var 3)) (less (var 2) (var 4))))
     (omega arith)
 
 turn_out : (v w r : Point) → orient v w r ≡ cross (v.x -ℤ r.x) (v.y -ℤ r.y) (w.x -ℤ v.x) (w.y -ℤ v.y)
 unfolding orient
 turn_out v w r =
-    ring (coordinates (v ∷ w ∷ r ∷ [])) (turn 0 2 4)
+    ring (coordinates (v ∷ w ∷ r ∷ [])) (orient_term 0 2 4)
     (less (times (less (var 0) (var 4)) (less (var 3) (var 1))) (times (less (var 1) (var 5)) (less (var 2) (var 0))))
     (omega arith)
 

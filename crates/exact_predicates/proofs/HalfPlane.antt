@@ -7,7 +7,7 @@ use Rattle.exact_predicates.specs.declared.point.Point.{Point}
 use Rattle.exact_predicates.specs.Plane.{orient, Precedes}
 use Rattle.exact_predicates.proofs.IntSigns.{mul-nonneg, mul-pos, nonneg-from-mul, pos-from-mul}
 use Rattle.exact_predicates.proofs.Ring.{var, num, plus, less, times, ring}
-use Rattle.exact_predicates.proofs.Orientation.{coordinates, turn}
+use Rattle.exact_predicates.proofs.Orientation.{coordinates, orient_term}
 
 -- the turn from one vector to another: positive to the left
 abbrev pub cross : ℤ → ℤ → ℤ → ℤ → ℤ
@@ -95,7 +95,7 @@ turn_transitive o a b c ha hb hc ab bc =
 pub orient_back : (o a b : Point) → orient o a b ≡ cross (o.x -ℤ a.x) (o.y -ℤ a.y) (o.x -ℤ b.x) (o.y -ℤ b.y)
 unfolding orient
 orient_back o a b =
-    ring (coordinates (o ∷ a ∷ b ∷ [])) (turn 0 2 4)
+    ring (coordinates (o ∷ a ∷ b ∷ [])) (orient_term 0 2 4)
     (less (times (less (var 0) (var 2)) (less (var 1) (var 5))) (times (less (var 1) (var 3)) (less (var 0) (var 4))))
     (omega arith)
 
@@ -134,7 +134,7 @@ cross_four ax ay bx by cx cy dx dy =
 orient_at_second : (a b c : Point) → orient a b c ≡ cross (b.x -ℤ a.x) (b.y -ℤ a.y) (c.x -ℤ b.x) (c.y -ℤ b.y)
 unfolding orient
 orient_at_second a b c =
-    ring (coordinates (a ∷ b ∷ c ∷ [])) (turn 0 2 4)
+    ring (coordinates (a ∷ b ∷ c ∷ [])) (orient_term 0 2 4)
     (less (times (less (var 2) (var 0)) (less (var 5) (var 3))) (times (less (var 3) (var 1)) (less (var 4) (var 2))))
     (omega arith)
 

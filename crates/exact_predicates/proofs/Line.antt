@@ -6,7 +6,7 @@ use Rattle.exact_predicates.specs.declared.point.Point.{Point}
 use Rattle.exact_predicates.specs.Plane.{orient, Precedes}
 use Rattle.exact_predicates.proofs.IntSigns.{mul-pos, pos-from-mul, zero-from-mul}
 use Rattle.exact_predicates.proofs.Ring.{var, num, plus, less, times, ring}
-use Rattle.exact_predicates.proofs.Orientation.{coordinates, turn}
+use Rattle.exact_predicates.proofs.Orientation.{coordinates, orient_term}
 use Rattle.exact_predicates.proofs.HalfPlane.{cross, IsForward, cross_by_x, cross_swap, forward_from}
 
 cross_by_y : (ax ay bx by cx cy : ℤ) → by *ℤ cross ax ay cx cy ≡ (ay *ℤ cross bx by cx cy) +ℤ (cy *ℤ cross ax ay bx by)
@@ -35,7 +35,7 @@ unfolding orient
 difference a b i j =
     ring (coordinates (a ∷ b ∷ i ∷ j ∷ []))
     (less (times (less (var 2) (var 0)) (less (var 7) (var 5))) (times (less (var 3) (var 1)) (less (var 6) (var 4))))
-    (less (turn 0 2 6) (turn 0 2 4))
+    (less (orient_term 0 2 6) (orient_term 0 2 4))
     (omega arith)
 
 -- three points on the line of two others lie on one line

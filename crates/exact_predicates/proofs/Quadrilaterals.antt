@@ -5,7 +5,7 @@ use Rattle.exact_predicates.specs.declared.point.Point.{Point}
 use Rattle.exact_predicates.specs.Plane.{orient, Crosses, IsInClosedTriangle}
 use Rattle.exact_predicates.specs.PointSet.{point_at}
 use Rattle.exact_predicates.proofs.Corners.{IsBare}
-use Rattle.exact_predicates.proofs.Orientation.{orient_turned, orient_swapped, orient_four}
+use Rattle.exact_predicates.proofs.Orientation.{orient_turned, orient_swapped, orient_four, orient_last_twice}
 use Rattle.exact_predicates.proofs.Triangles.{triangle_left_of}
 
 -- u, b, v, a is a strictly convex quadrilateral: the two triangles on uv and the two on ab turn to the left
@@ -31,10 +31,6 @@ IsQuad-convex u v a b l r c =
 pub IsQuad-turned : (u v a b : Point) → IsQuad u v a b → IsQuad v u b a
 IsQuad-turned u v a b h = record { uva = h.vub; vub = h.uva; uba = h.vab; vab = h.uba }
 
--- a line through a point does not pass it by
-on_own_line : (p q : Point) → orient p q q ≡ pos 0
-on_own_line p q = omega (arith, ints, orient_swapped q q p, orient_turned p q q)
-
 -- a point of the triangle uba lies in uva, or strictly on the other side of uv and in vub
 in_either : (u v a b r : Point) → IsQuad u v a b → IsInClosedTriangle u b a r
     → IsInClosedTriangle u v a r ⊎ (IsInClosedTriangle v u b r × (orient u v r <ℤ pos 0))
@@ -47,14 +43,14 @@ in_either u v a b r q i =
       record {
         left_of_ab = omega (arith, ints, orient_swapped u v r);
         left_of_bc = i.left_of_ab;
-        left_of_ca = triangle_left_of u b a r b v q.uba i (omega (arith, ints, orient_turned b v u)) (omega (arith, ints, on_own_line v b, orient_turned b v b)) (omega (arith, ints, orient_turned b v a));
+        left_of_ca = triangle_left_of u b a r b v q.uba i (omega (arith, ints, orient_turned b v u)) (omega (arith, ints, orient_last_twice v b, orient_turned b v b)) (omega (arith, ints, orient_turned b v a));
       },
       l,
     ))
     (λ g. inl (
     record {
       left_of_ab = g;
-      left_of_bc = triangle_left_of u b a r v a q.uba i (omega (arith, ints, orient_turned u v a)) (omega (arith, ints)) (omega (arith, ints, on_own_line v a));
+      left_of_bc = triangle_left_of u b a r v a q.uba i (omega (arith, ints, orient_turned u v a)) (omega (arith, ints)) (omega (arith, ints, orient_last_twice v a));
       left_of_ca = i.left_of_ca;
     }
     ))
@@ -89,4 +85,4 @@ IsBare-flip ps u v a b l r q =
     off_line : (x : ℕ) → x ≡ v → orient (point_at ps u) (point_at ps v) (point_at ps x) <ℤ pos 0 → ⊥
     off_line x e h =
         let k = subst (λ y. orient (point_at ps u) (point_at ps v) (point_at ps y) <ℤ pos 0) e h in
-        omega (arith, ints, on_own_line (point_at ps u) (point_at ps v))
+        omega (arith, ints, orient_last_twice (point_at ps u) (point_at ps v))

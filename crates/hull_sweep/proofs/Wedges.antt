@@ -3,7 +3,7 @@ use Rattle.std.proofs.Common.{◌≡◌, ℕ, ◌+◌, ℤ, pos, ◌+ℤ◌, ◌
 use Rattle.exact_predicates.specs.declared.point.Point.{Point}
 use Rattle.exact_predicates.specs.Plane.{orient, Precedes}
 use Rattle.exact_predicates.proofs.HalfPlane.{cross, cross_transitive, cross_strict, cross_strict_last, forward_from}
-use Rattle.exact_predicates.proofs.Orientation.{coordinates, turn as orient_term}
+use Rattle.exact_predicates.proofs.Orientation.{coordinates, orient_term}
 use Rattle.exact_predicates.proofs.Ring.{Term, var, num, plus, less, times, ring}
 use Rattle.hull_sweep.specs.declared.side.Side.{Side}
 use Rattle.hull_sweep.specs.declared.side.Side.TheVariants.{Lower, Upper}

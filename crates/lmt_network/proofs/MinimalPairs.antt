@@ -8,21 +8,10 @@ use Rattle.exact_predicates.specs.Plane.{orient, d2, Crosses}
 use Rattle.exact_predicates.specs.PointSet.{point_at}
 use Rattle.exact_predicates.specs.Triangulation.{HasCorners, IsEmpty}
 use Rattle.exact_predicates.specs.Flip.{IsMinimalBetween}
+use Rattle.exact_predicates.proofs.Corners.{corner_once}
 use Rattle.exact_predicates.proofs.Orientation.{orient_turned}
 use Rattle.lmt_network.specs.Network.{NetworkParts, edge_at, tri_at}
 use Rattle.lmt_network.specs.Numbers.{HasSide, IsMinimalPair}
-
--- the third corner of a triangle on a side is one
-pub corner_once : (t : Tri) (u v w x : ℕ) → HasCorners t u v w → HasCorners t u v x → w ≡ x
-corner_once t u v w x h k =
-    let ab = t.below_b in let ac = t.below_c in let bc = t.apart in
-    ⊎_elim
-    (λ f. ⊎_elim (λ g. sym f.2 ∙ g.2) (λ o. ⊎_elim (λ g. absurd (omega (arith, f.0, g.0))) (λ g. absurd (omega (arith, f.0, g.0))) o) k)
-    (λ m. ⊎_elim
-    (λ f. ⊎_elim (λ g. absurd (omega (arith, f.0, g.0))) (λ o. ⊎_elim (λ g. sym f.2 ∙ g.2) (λ g. absurd (bc (f.0 ∙ sym g.0))) o) k)
-    (λ f. ⊎_elim (λ g. absurd (omega (arith, f.0, g.0))) (λ o. ⊎_elim (λ g. absurd (bc (g.0 ∙ sym f.0))) (λ g. sym f.2 ∙ g.2) o) k)
-    m)
-    h
 
 -- the corners of an empty triangle from any of them on
 pub turned_empty : (ps : List Point) (t : Tri) (u v w : ℕ) → IsEmpty ps t → HasCorners t u v w

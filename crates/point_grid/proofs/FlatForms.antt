@@ -5,7 +5,7 @@ use Rattle.exact_predicates.specs.declared.point.Point.{Point}
 use Rattle.exact_predicates.specs.Blocking.{Blocks}
 use Rattle.exact_predicates.specs.Plane.{orient, dot}
 use Rattle.exact_predicates.proofs.Blocking.{dot_parts}
-use Rattle.exact_predicates.proofs.Orientation.{coordinates, turn, orient_swapped, orient_swapped_last}
+use Rattle.exact_predicates.proofs.Orientation.{coordinates, orient_term, orient_swapped, orient_swapped_last}
 use Rattle.exact_predicates.proofs.Ring.{var, num, plus, less, times, ring}
 use Rattle.point_grid.specs.declared.frame.Frame.{Frame}
 use Rattle.point_grid.specs.declared.frame.View.{View}
@@ -66,7 +66,7 @@ unfolding orient
 sine_of p q r =
     ring (coordinates (p ∷ q ∷ r ∷ []))
     (plus (times (less (var 1) (var 3)) (less (var 4) (var 0))) (times (less (var 2) (var 0)) (less (var 5) (var 1))))
-    (turn 0 2 4)
+    (orient_term 0 2 4)
     (omega arith)
 
 pub cosine_of : (p q r : Point) → ((q.x -ℤ p.x) *ℤ (r.x -ℤ p.x)) +ℤ ((q.y -ℤ p.y) *ℤ (r.y -ℤ p.y)) ≡ dot p q r
@@ -79,7 +79,7 @@ unfolding orient
 sine_at p q w =
     ring (coordinates (p ∷ q ∷ w ∷ []))
     (plus (times (less (var 5) (var 1)) (less (var 2) (var 0))) (times (less (var 0) (var 4)) (less (var 3) (var 1))))
-    (turn 0 2 4)
+    (orient_term 0 2 4)
     (omega arith)
 
 pub cosine_at : (p q w : Point) → ((w.x -ℤ p.x) *ℤ (q.x -ℤ p.x)) +ℤ ((w.y -ℤ p.y) *ℤ (q.y -ℤ p.y)) ≡ dot p q w

@@ -4,7 +4,7 @@ use Rattle.std.proofs.lemmas.Int.{ints, by_lt_z}
 use Rattle.exact_predicates.specs.declared.point.Point.{Point}
 use Rattle.exact_predicates.specs.Plane.{orient, Precedes}
 use Rattle.exact_predicates.proofs.Ring.{var, num, plus, less, times, ring}
-use Rattle.exact_predicates.proofs.Orientation.{coordinates, turn, orient_swapped_last}
+use Rattle.exact_predicates.proofs.Orientation.{coordinates, orient_term, orient_swapped_last}
 use Rattle.exact_predicates.proofs.HalfPlane.{cross, cross_swap, cross_strict_last, forward_from, orient_back}
 use Rattle.skeleton_faces.specs.Faces.{AreClockwise}
 
@@ -34,7 +34,7 @@ orient_behind : (o q r : Point) → orient o q r +ℤ cross (q.x -ℤ o.x) (q.y 
 unfolding orient
 orient_behind o q r =
     ring (coordinates (o ∷ q ∷ r ∷ []))
-    (plus (turn 0 2 4) (less (times (less (var 2) (var 0)) (less (var 1) (var 5))) (times (less (var 3) (var 1)) (less (var 0) (var 4)))))
+    (plus (orient_term 0 2 4) (less (times (less (var 2) (var 0)) (less (var 1) (var 5))) (times (less (var 3) (var 1)) (less (var 0) (var 4)))))
     (num (pos 0))
     (omega arith)
 

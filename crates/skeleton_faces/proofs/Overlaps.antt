@@ -4,7 +4,7 @@ use Rattle.std.proofs.lemmas.Int.{ints}
 use Rattle.exact_predicates.specs.declared.point.Point.{Point}
 use Rattle.exact_predicates.specs.Plane.{orient, Precedes, Crosses}
 use Rattle.exact_predicates.proofs.Ring.{var, plus, less, times, ring}
-use Rattle.exact_predicates.proofs.Orientation.{coordinates, turn}
+use Rattle.exact_predicates.proofs.Orientation.{coordinates, orient_term}
 use Rattle.exact_predicates.proofs.HalfPlane.{cross, cross_swap, forward_from, cross_strict}
 use Rattle.exact_predicates.proofs.Order.{Precedes-cases}
 
@@ -16,28 +16,28 @@ steps p q r s = cross (q.x -ℤ p.x) (q.y -ℤ p.y) (s.x -ℤ r.x) (s.y -ℤ r.y
 turn-rsp : (r s p q : Point) → orient r s p ≡ steps r s s p
 unfolding orient
 turn-rsp r s p q =
-    ring (coordinates (r ∷ s ∷ p ∷ q ∷ [])) (turn 0 2 4)
+    ring (coordinates (r ∷ s ∷ p ∷ q ∷ [])) (orient_term 0 2 4)
     (less (times (less (var 2) (var 0)) (less (var 5) (var 3))) (times (less (var 3) (var 1)) (less (var 4) (var 2))))
     (omega arith)
 
 turn-rsq : (r s p q : Point) → orient r s q ≡ steps r s s p +ℤ steps r s p q
 unfolding orient
 turn-rsq r s p q =
-    ring (coordinates (r ∷ s ∷ p ∷ q ∷ [])) (turn 0 2 6)
+    ring (coordinates (r ∷ s ∷ p ∷ q ∷ [])) (orient_term 0 2 6)
     (plus (less (times (less (var 2) (var 0)) (less (var 5) (var 3))) (times (less (var 3) (var 1)) (less (var 4) (var 2)))) (less (times (less (var 2) (var 0)) (less (var 7) (var 5))) (times (less (var 3) (var 1)) (less (var 6) (var 4)))))
     (omega arith)
 
 turn-pqs : (r s p q : Point) → orient p q s ≡ steps s p p q
 unfolding orient
 turn-pqs r s p q =
-    ring (coordinates (r ∷ s ∷ p ∷ q ∷ [])) (turn 4 6 2)
+    ring (coordinates (r ∷ s ∷ p ∷ q ∷ [])) (orient_term 4 6 2)
     (less (times (less (var 4) (var 2)) (less (var 7) (var 5))) (times (less (var 5) (var 3)) (less (var 6) (var 4))))
     (omega arith)
 
 turn-pqr : (r s p q : Point) → orient p q r ≡ steps r s p q +ℤ steps s p p q
 unfolding orient
 turn-pqr r s p q =
-    ring (coordinates (r ∷ s ∷ p ∷ q ∷ [])) (turn 4 6 0)
+    ring (coordinates (r ∷ s ∷ p ∷ q ∷ [])) (orient_term 4 6 0)
     (plus (less (times (less (var 2) (var 0)) (less (var 7) (var 5))) (times (less (var 3) (var 1)) (less (var 6) (var 4)))) (less (times (less (var 4) (var 2)) (less (var 7) (var 5))) (times (less (var 5) (var 3)) (less (var 6) (var 4)))))
     (omega arith)
 
