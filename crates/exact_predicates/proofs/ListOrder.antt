@@ -1,13 +1,14 @@
 -- The orders of edges and of triangles in lists.
-use Rattle.std.proofs.Common.{◌≡◌, ◌↔◌, ◌⊎◌, ℕ, ◌<◌, ◌≤◌, arith, ap, sym, ◌∙◌, ⊎_elim, inl, inr}
+use Rattle.std.proofs.Common.{◌≡◌, ◌↔◌, ◌⊎◌, ℕ, ◌<◌, ◌≤◌, arith, AllPairs, List, get_or, ap, subst, sym, ◌∙◌, ⊎_elim, inl, inr}
 use Rattle.std.specs.declared.cmp.Ordering.{Ordering}
 use Rattle.std.specs.declared.cmp.Ordering.TheVariants.{Less, Equal, Greater}
-use Rattle.std.specs.Ordering.{nat_cmp, ordering_then}
-use Rattle.std.proofs.lemmas.Bool.{cases_order}
+use Rattle.std.specs.Ordering.{nat_cmp, ordering_index, ordering_then}
+use Rattle.std.specs.List.Sorted.{IsNonDecreasingBy, IsPartitionPoint}
+use Rattle.std.proofs.lemmas.Bool.{cases_lt, cases_order}
 use Rattle.std.proofs.lemmas.Bool.Decides.{nat_tests}
 use Rattle.exact_predicates.specs.declared.edge.Edge.{Edge}
 use Rattle.exact_predicates.specs.declared.tri.Tri.{Tri}
-use Rattle.exact_predicates.specs.Candidates.{EdgePrecedes, TriPrecedes, edge_cmp}
+use Rattle.exact_predicates.specs.Candidates.{EdgePrecedes, HasEdge, Joins, TriPrecedes, edge_cmp}
 use Rattle.exact_predicates.specs.Triangulation.{tri_cmp}
 
 nat_cmp-less : (a b : ℕ) → a < b → nat_cmp a b ≡ Less
@@ -110,3 +111,38 @@ EdgePrecedes-trans e f g h k =
 
 pub EdgePrecedes-irreflexive : (e : Edge) → ¬ EdgePrecedes e e
 EdgePrecedes-irreflexive e h = ⊎_elim (λ l. absurd (omega (arith, l))) (λ p. absurd (omega (arith, p.1))) h
+
+index_at_most : (o : Ordering) → ordering_index o ≤ 2
+index_at_most Less = omega arith
+index_at_most Equal = omega arith
+index_at_most Greater = omega arith
+
+-- the later edge is not the lesser
+index-rises : (e f x : Edge) → EdgePrecedes e f → ordering_index (edge_cmp e x) ≤ ordering_index (edge_cmp f x)
+index-rises e f x h =
+    ⊎_elim
+    (λ before. let none = ap ordering_index (edge_cmp-precedes e x (EdgePrecedes-trans e f x h before)) in omega (arith, none))
+    (λ m. ⊎_elim
+    (λ (same : (f.a ≡ x.a) × (f.b ≡ x.b)).
+    let first : EdgePrecedes e x = ⊎_elim (λ l. let s : e.a < x.a = omega (arith, l, same.0) in inl s) (λ l. let s : e.b < x.b = omega (arith, l.1, same.1) in inr (l.0 ∙ same.0, s)) h in
+    let none = ap ordering_index (edge_cmp-precedes e x first) in omega (arith, none))
+    (λ after. let two = ap ordering_index (edge_cmp-follows f x after) in let most = index_at_most (edge_cmp e x) in omega (arith, two, most))
+    m)
+    (edge_cases f x)
+
+-- a search that finds no place for a listed edge is impossible
+pub search_finds : (es : List Edge) (x : Edge) (u v i : ℕ) → AllPairs EdgePrecedes es → HasEdge es u v → Joins x u v
+    → (IsNonDecreasingBy (λ y. ordering_index (edge_cmp y x)) es → IsPartitionPoint (λ y. edge_cmp y x ≡ Less) (λ y. edge_cmp y x ≡ Greater) es i) → ⊥
+search_finds es x u v i up (k, e, k_in, at_k, joins) x_is answer =
+    let point = answer (λ a b d l b_in. ⊎_elim (λ (less : a < b). index-rises (get_or es a d) (get_or es b d) x (up a b d less b_in)) (λ (not_less : b ≤ a). let same : a ≡ b = omega arith in rw same (omega arith)) (cases_lt a b)) in
+    let equal : edge_cmp e x ≡ Equal = edge_cmp-same e x (joins.0 ∙ sym x_is.0) (joins.1 ∙ sym x_is.1) in
+    ⊎_elim
+    (λ (low : k < i). let less : edge_cmp e x ≡ Less = subst (λ (y : Edge). edge_cmp y x ≡ Less) at_k (point.0 k e (omega arith) low) in absurd (apart1 (sym equal ∙ less)))
+    (λ (high : i ≤ k). let greater : edge_cmp e x ≡ Greater = subst (λ (y : Edge). edge_cmp y x ≡ Greater) at_k (point.1 k e high k_in) in absurd (apart2 (sym equal ∙ greater)))
+    (cases_lt k i)
+  where
+    apart1 : Equal ≡ Less → ⊥
+    apart1 h = cc
+
+    apart2 : Equal ≡ Greater → ⊥
+    apart2 h = cc

@@ -7,9 +7,13 @@ use Rattle.exact_predicates.specs.declared.point.Point.{Point}
 use Rattle.exact_predicates.specs.Plane.{orient}
 use Rattle.exact_predicates.specs.PointSet.{PointSet, IsPointSet}
 
--- no coordinate is above the limit in size, as a test
+-- a coordinate of this size is out of range
+abbrev pub is_too_large : ℕ → Bool
+is_too_large size = nat_lt most_coordinate size
+
+-- no coordinate is out of range, as a test
 abbrev pub is_in_range : Point → Bool
-is_in_range p = not (nat_lt most_coordinate (unsigned_abs p.x)) && not (nat_lt most_coordinate (unsigned_abs p.y))
+is_in_range p = not (is_too_large (unsigned_abs p.x)) && not (is_too_large (unsigned_abs p.y))
 
 -- p and q have the same coordinates
 abbrev pub is_same_place : Point → Point → Bool

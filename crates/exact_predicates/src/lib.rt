@@ -16,7 +16,7 @@ mod tri;
 pub use diamond::Diamond;
 pub use edge::Edge;
 pub use laws::{order_laws, root_laws, triangulation_laws};
-pub use lists::{Edges, Hull, PointList, Tris};
+pub use lists::{Edges, Hull, PointList, Tris, next_on_hull, place_of_edge};
 pub use point::{Point, d2, dot, in_range, orient};
 pub use points::{Points, PointsStop};
 pub use relations::{
