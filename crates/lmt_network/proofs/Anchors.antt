@@ -17,10 +17,10 @@ use Rattle.exact_predicates.proofs.ListFacts.{AllPairs-head, AllPairs-tail}
 use Rattle.exact_predicates.proofs.Pairs.{hit_none, hit_same, hit_turned}
 use Rattle.lmt_network.specs.FlipMinimal.{IsEdgeOf}
 use Rattle.lmt_network.specs.Prices.{Priced, is_on_hull, priced_edges}
-use Rattle.lmt_network.proofs.CountedSums.{count}
+use Rattle.exact_predicates.proofs.SidesCounted.{count}
 use Rattle.lmt_network.proofs.Entries.{IsEntry, contains_map, is_on_hull_decides, map-contains}
 use Rattle.lmt_network.proofs.Filters.{count_from, count_to}
-use Rattle.lmt_network.proofs.Naming.{EdgePrecedes-irreflexive}
+use Rattle.exact_predicates.proofs.ListOrder.{EdgePrecedes-irreflexive}
 
 -- the ends of a pair, the lesser first, and those of a priced edge
 abbrev pub up : ℕ × ℕ → ℕ × ℕ

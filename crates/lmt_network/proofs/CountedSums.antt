@@ -4,13 +4,10 @@ use Rattle.std.proofs.lemmas.Int.{ints, by_lt_z}
 use Rattle.std.proofs.lemmas.List.Sums.{sum_by-append, sum_by-cons}
 use Rattle.exact_predicates.specs.Triangulation.{hit}
 use Rattle.exact_predicates.proofs.Pairs.{hit_none, hit_same}
+use Rattle.exact_predicates.proofs.SidesCounted.{count}
 use Rattle.lmt_network.specs.Prices.{int_sum_by}
 use Rattle.lmt_network.proofs.Filters.{count_from, count_to}
 use Rattle.lmt_network.proofs.IntSums.{around, int_sum_by-append, int_sum_by-cons, int_sum_by-not_negative}
-
--- how often x to y is in a list
-abbrev pub count : List (ℕ × ℕ) → ℕ → ℕ → ℕ
-count xs x y = sum_by (hit x y) xs
 
 -- what xs has of each pair that counts, ys has: as often where the measure is negative, and at least as often where it is positive
 pub record AreCovered (f : ℕ × ℕ → ℤ) (xs ys : List (ℕ × ℕ)) : Type 0 where

@@ -12,7 +12,7 @@ use Rattle.exact_predicates.proofs.Equalities.{Edge-equal}
 use Rattle.exact_predicates.proofs.ListFacts.{AllPairs-head, AllPairs-tail}
 use Rattle.exact_predicates.proofs.Pairs.{is_pair_decides, is_side_decides, is_side_same}
 use Rattle.lmt_network.specs.Prices.{Priced, priced_edges, unpriced, find_priced, priced, is_on_hull, anchors_of}
-use Rattle.lmt_network.proofs.Naming.{EdgePrecedes-irreflexive}
+use Rattle.exact_predicates.proofs.ListOrder.{EdgePrecedes-irreflexive}
 use Rattle.lmt_network.proofs.Picked.{contains-cases, contains-here, contains-later, contains-nil}
 
 -- members of a mapped list

@@ -12,12 +12,11 @@ use Rattle.exact_predicates.specs.Triangulation.{HasCorners, IsEmpty, IsTriangul
 use Rattle.exact_predicates.proofs.Corners.{IsBare, IsBare-corners, corners_differ}
 use Rattle.exact_predicates.proofs.Elements.{Any-weaker}
 use Rattle.exact_predicates.proofs.Orientation.{orient_swapped, orient_swapped_last}
-use Rattle.exact_predicates.proofs.Pairs.{side_of_member}
+use Rattle.exact_predicates.proofs.Pairs.{side_of_member, pair_or_not}
 use Rattle.lmt_network.proofs.Angles.{left_chain, right_chain}
 use Rattle.lmt_network.proofs.Fans.{IsFan, fan_angle}
 use Rattle.lmt_network.proofs.Filters.{side_from, count_to}
 use Rattle.exact_predicates.proofs.Corners.{turned_corners}
-use Rattle.lmt_network.proofs.FlipMinimal.{pair_or_not}
 
 -- some triangle has the corners u, x and y in this turn
 abbrev pub HasTri : List Tri → ℕ → ℕ → ℕ → Type 0

@@ -21,7 +21,7 @@ use Rattle.exact_predicates.proofs.Between.{IsBetween-turned}
 use Rattle.exact_predicates.proofs.Corners.{turned_corners}
 use Rattle.exact_predicates.proofs.Elements.{Any-append_left, Any-append_right, Any-append_cases, Any-weaker}
 use Rattle.exact_predicates.proofs.Equalities.{Joins-comm, HasEdge-Contains}
-use Rattle.exact_predicates.proofs.Pairs.{is_pair_decides, is_inner_decides}
+use Rattle.exact_predicates.proofs.Pairs.{is_pair_decides, is_inner_decides, pair_or_not}
 use Rattle.exact_predicates.proofs.Rings.{place_of_pair}
 use Rattle.lmt_network.specs.FlipMinimal.{IsEdgeOf, AreEdgesOf, FlipMinimalIsClosed, FlipMinimalIsLive, EdgesAreCandidates}
 use Rattle.lmt_network.specs.Live.{IsHullEdge, HasSupport}
@@ -58,11 +58,6 @@ inner_edge : (hull : List ℕ) (tris : List Tri) (e : Edge) (u v : ℕ) → Join
 inner_edge hull tris e u v joins up none has =
     let (k, k_in, at_k) = filter-to (is_inner hull) (flat_map sides tris) (u, v) has ((is_inner_decides hull u v).1 (up, none)) in
     Any-append_right (λ s. Joins e s.0 s.1) (ring_pairs hull) (filter (is_inner hull) (flat_map sides tris)) (k, (u, v), k_in, at_k, joins)
-
-pub pair_or_not : (hull : List ℕ) (u v : ℕ) → IsHullPair hull u v ⊎ (¬ IsHullPair hull u v)
-pair_or_not hull u v =
-    let d = is_pair_decides hull u v in
-    ⊎_elim (λ t. inl (d.0 t)) (λ f. inr (λ p. false≢true (sym f ∙ d.1 p))) (cases_Bool (list_any (is_side u v) (ring_pairs hull)))
 
 -- the edge between two numbers
 pub edge_between : (u v : ℕ) → u ≢ v → (e : Edge) × Joins e u v

@@ -17,7 +17,7 @@ use Rattle.lmt_network.proofs.Entries.{is_on_hull_decides}
 use Rattle.lmt_network.proofs.Filters.{count_from, count_to, filter-from, side_from}
 use Rattle.exact_predicates.proofs.Corners.{turned_corners}
 use Rattle.lmt_network.proofs.Picked.{contains-here, contains-later}
-use Rattle.lmt_network.proofs.Shares.{inner_sides}
+use Rattle.exact_predicates.proofs.SidesCounted.{inner_sides}
 use Rattle.lmt_network.proofs.Slacks.{inner_off}
 
 -- each element keeps P, or Q holds, where either is so at each

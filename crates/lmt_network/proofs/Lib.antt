@@ -9,7 +9,6 @@ pub mod Entries
 pub mod Facing
 pub mod Fans
 pub mod Filters
-pub mod Finds
 pub mod FlipMinimal
 pub mod Flippable
 pub mod HullFlags

@@ -12,7 +12,8 @@ use Rattle.lmt_network.specs.Bounds.{BoundIsBelow}
 use Rattle.lmt_network.specs.FlipMinimal.{IsEdgeOf}
 use Rattle.lmt_network.specs.Prices.{ArePrices, Priced, anchors_of, find_priced, is_on_hull, unpriced}
 use Rattle.lmt_network.proofs.Anchors.{edge_counted, ends, entry-once, hull-once, up}
-use Rattle.lmt_network.proofs.CountedSums.{AreCovered, count, sum-covered}
+use Rattle.exact_predicates.proofs.SidesCounted.{count}
+use Rattle.lmt_network.proofs.CountedSums.{AreCovered, sum-covered}
 use Rattle.lmt_network.proofs.Entries.{IsEntry, find_priced-cases, find_priced-own}
 use Rattle.lmt_network.proofs.IntSums.{int_sum_by-map, int_sum_by-same}
 use Rattle.lmt_network.proofs.Slacks.{anchors_below}

@@ -9,6 +9,7 @@ use Rattle.exact_predicates.specs.declared.tri.Tri.{Tri}
 use Rattle.exact_predicates.specs.Triangulation.{HasCorners}
 use Rattle.exact_predicates.specs.Candidates.{EdgePrecedes, Joins, HasEdge, IsCandidate, AreCandidates, IsEmptyOver}
 use Rattle.exact_predicates.proofs.Equalities.{HasEdge-Contains, Contains-HasEdge}
+use Rattle.exact_predicates.proofs.ListOrder.{EdgePrecedes-irreflexive}
 use Rattle.lmt_network.specs.Live.{IsHullEdge, HasSupport, IsClosed, IsLive}
 use Rattle.lmt_network.specs.Flags.{live_numbers, live_edges}
 use Rattle.lmt_network.specs.Network.{NetworkParts, IsNetwork, edge_at, tri_at}
@@ -25,10 +26,6 @@ pub record AreNamed (n : NetworkParts) (es : List ℕ) (fs : List Edge) : Type 0
 -- what a list has, read at its place
 pub read_member : {X : Type 0} (xs : List X) (x d : X) → (h : Contains xs x) → get_or xs h.0 d ≡ x
 read_member xs x d (k, k_in, at_k) = get_or_default xs k d x k_in ∙ at_k
-
--- no edge precedes itself
-pub EdgePrecedes-irreflexive : (e : Edge) → ¬ EdgePrecedes e e
-EdgePrecedes-irreflexive e h = ⊎_elim (λ l. absurd (omega (arith, l))) (λ p. absurd (omega (arith, p.1))) h
 
 -- an edge has one number
 pub edge_at-once : (n : NetworkParts) (i j : ℕ) → AllPairs EdgePrecedes n.edges → i < length n.edges → j < length n.edges → edge_at n i ≡ edge_at n j → i ≡ j

@@ -17,7 +17,8 @@ use Rattle.lmt_network.proofs.Entries.{anchors_of-is, is_on_hull-comm, is_on_hul
 use Rattle.lmt_network.proofs.Filters.{count_from, filter-from}
 use Rattle.lmt_network.proofs.FlipMinimal.{tri_over}
 use Rattle.lmt_network.proofs.IntSums.{int_sum_by-append, int_sum_by-not_negative, int_sum_by-plus, int_sum_by-pos, int_sum_by-same}
-use Rattle.lmt_network.proofs.Shares.{inner_sides, sum-sides, sum-slacks, turned}
+use Rattle.exact_predicates.proofs.SidesCounted.{inner_sides, turned}
+use Rattle.lmt_network.proofs.Shares.{sum-sides, sum-slacks}
 
 -- the weight of an edge is that of its side, whichever way this runs
 weight-up : (ps : List Point) (u v : ℕ) → weight ps (min u v, max u v) ≡ weight ps (u, v)

@@ -1,5 +1,5 @@
 -- The laws of the bound: no triangulation with live edges is shorter, and so none at all.
-use Rattle.std.specs.Prelude.{ℕ, ◌+◌, ◌≤◌, List, length, All, Contains, sum_by, pos, ◌≤ℤ◌}
+use Rattle.std.specs.Prelude.{ℕ, List, All, Contains, pos, ◌≤ℤ◌}
 use Rattle.exact_predicates.specs.declared.diamond.Diamond.{Diamond}
 use Rattle.exact_predicates.specs.declared.diamond.Diamond.TheVariants.{Off}
 use Rattle.exact_predicates.specs.declared.edge.Edge.{Edge}
@@ -8,7 +8,7 @@ use Rattle.exact_predicates.specs.declared.tri.Tri.{Tri}
 use Rattle.exact_predicates.specs.Hull.{IsHull}
 use Rattle.exact_predicates.specs.Triangulation.{IsTriangulation, edges}
 use Rattle.exact_predicates.specs.Candidates.{AreCandidates}
-use Rattle.exact_predicates.specs.Length.{length_down, IsAtLeast, IsNotLonger}
+use Rattle.exact_predicates.specs.Length.{IsAsShort, IsAtLeast, IsNotLonger}
 use Rattle.length_enclosure.specs.Enclosure.{lo}
 use Rattle.lmt_network.specs.FlipMinimal.{IsEdgeOf, HasCandidateEdges, IsFlipMinimalTriangulation}
 use Rattle.lmt_network.specs.Live.{IsLive}
@@ -38,17 +38,12 @@ SomeFlipMinimal =
     (ps : List Point) (hull : List ℕ) (first : List Tri) → IsHull ps hull → IsTriangulation ps hull first
     → (found : MinimalTriangulation ps hull) × IsNotLonger ps (edges hull found.tris) (edges hull first)
 
--- The edges es are together not longer than fs: at each scale the sum of their lengths, rounded down, is at most that of
--- fs with one more for each edge of fs.
-abbrev pub IsUpToLength : List Point → List (ℕ × ℕ) → List (ℕ × ℕ) → Type 0
-IsUpToLength ps es fs = (m : ℕ) → 1 ≤ m → sum_by (length_down ps m) es ≤ sum_by (length_down ps m) fs + length fs
-
 -- The premise of the diamond test: each triangulation has a flip-minimal one of candidate edges that is not longer.
 abbrev pub Exclusion : List Point → List ℕ → Diamond → Type 0
 Exclusion ps hull diamond =
     (first : List Tri) → IsTriangulation ps hull first
     → (found : MinimalTriangulation ps hull) × HasCandidateEdges ps hull diamond found.tris
-    × IsUpToLength ps (edges hull found.tris) (edges hull first)
+    × IsAsShort ps (edges hull found.tris) (edges hull first)
 
 -- With the test off it holds.
 abbrev pub ExclusionOff : Type 0
