@@ -35,9 +35,6 @@ pub record AreScaled (k i : ℕ) (kept : List KeptNode) (points : List Point) : 
   pub are : (ns : List Node) → AllZip KeepsNode kept ns → points ≡ map (scaled k) (take i ns)
   pub fine : (ns : List Node) → AllZip KeepsNode kept ns → find (is_large k) (take i ns) ≡ None
 
-pub AreScaled-none : (k : ℕ) (kept : List KeptNode) → AreScaled k 0 kept []
-AreScaled-none k kept = record { are = λ ns z. refl; fine = λ ns z. refl }
-
 -- what is answered for a node, by whether it is too large
 abbrev pub point_or_none : ℕ → Node → Option Point
 point_or_none k n = cond (is_large k n) None (Some (scaled k n))

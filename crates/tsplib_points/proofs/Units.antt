@@ -1,10 +1,11 @@
 -- The unit of a file, by what is kept of its nodes.
 use Rattle.std.proofs.Common.{◌≡◌, ℕ, zero, suc, ◌+◌, ◌<◌, ◌≤◌, max, Bool, ◌&&◌, leb, List, [], ◌∷◌, length, get_or, take, find, unwrap_or, All, inl, inr, refl, sym, ap, ◌∙◌, arith}
-use Rattle.std.specs.List.{AllZip}
+use Rattle.std.specs.List.{AllZip, range_with_len}
 use Rattle.std.proofs.lemmas.Bool.{cases_lt, le-leb, lt-leb}
 use Rattle.std.proofs.lemmas.Bool.Decides.{nat_tests}
 use Rattle.std.proofs.lemmas.List.{take_more}
 use Rattle.std.proofs.lemmas.List.Recursion.{max_push, max_bounds}
+use Rattle.mwt_base.specs.Limits.{most_unit}
 use Rattle.tsplib_points.specs.declared.node.KeptNode.{KeptNode}
 use Rattle.tsplib_points.specs.Real.{Real, is_whole}
 use Rattle.tsplib_points.specs.Nodes.{Node}
@@ -16,16 +17,16 @@ use Rattle.tsplib_points.specs.Refusals.{are_whole, unit}
 abbrev pub own_unit : KeptNode → ℕ
 own_unit n = max n.x.unit n.y.unit
 
-abbrev pub most_unit : List KeptNode → ℕ
-most_unit [] = 0
-most_unit (n ∷ ns) = max (own_unit n) (most_unit ns)
+abbrev pub greatest_unit : List KeptNode → ℕ
+greatest_unit [] = 0
+greatest_unit (n ∷ ns) = max (own_unit n) (greatest_unit ns)
 
 -- one more node, as a loop takes it
-pub most_unit-more : (ns : List KeptNode) (i own old new : ℕ) (d : KeptNode) → i < length ns → old ≡ most_unit (take i ns)
-    → own ≡ max (get_or ns i d).x.unit (get_or ns i d).y.unit → new ≡ max own old → new ≡ most_unit (take (i + 1) ns)
-most_unit-more ns i own old new d h before e f =
-    let pushed = max_push most_unit own_unit refl (λ x xs. refl) (take i ns) (get_or ns i d) in
-    let taken = ap most_unit (take_more ns i d h) in
+pub greatest_unit-more : (ns : List KeptNode) (i own old new : ℕ) (d : KeptNode) → i < length ns → old ≡ greatest_unit (take i ns)
+    → own ≡ max (get_or ns i d).x.unit (get_or ns i d).y.unit → new ≡ max own old → new ≡ greatest_unit (take (i + 1) ns)
+greatest_unit-more ns i own old new d h before e f =
+    let pushed = max_push greatest_unit own_unit refl (λ x xs. refl) (take i ns) (get_or ns i d) in
+    let taken = ap greatest_unit (take_more ns i d h) in
     omega arith
 
 -- A kept decimal is whole at k exactly where k is not below its unit.
@@ -38,22 +39,22 @@ whole_from negative own size k r kept = elim (cases_lt k own) [
 both_leb : (a b m k : ℕ) → ((leb a k && leb b k) && leb m k) ≡ leb (max (max a b) m) k
 both_leb a b m k = grind (arith, nat_tests)
 
-pub are_whole_from : (kept : List KeptNode) (ns : List Node) → AllZip KeepsNode kept ns → (k : ℕ) → are_whole ns k ≡ leb (most_unit kept) k
+pub are_whole_from : (kept : List KeptNode) (ns : List Node) → AllZip KeepsNode kept ns → (k : ℕ) → are_whole ns k ≡ leb (greatest_unit kept) k
 are_whole_from [] [] z k = sym (le-leb 0 k (omega arith))
 are_whole_from [] (n ∷ ns) z k = absurd z
 are_whole_from (p ∷ kept) [] z k = absurd z
 are_whole_from (p ∷ kept) (n ∷ ns) z k =
     let x = whole_from p.x.negative p.x.unit p.x.size k n.x z.0.x in
     let y = whole_from p.y.negative p.y.unit p.y.size k n.y z.0.y in
-    rw (x, y, are_whole_from kept ns z.1 k) (both_leb p.x.unit p.y.unit (most_unit kept) k)
+    rw (x, y, are_whole_from kept ns z.1 k) (both_leb p.x.unit p.y.unit (greatest_unit kept) k)
 
--- no unit is above 6
-pub most_unit-le : (kept : List KeptNode) (ns : List Node) → AllZip KeepsNode kept ns → most_unit kept ≤ 6
-most_unit-le [] [] z = omega arith
-most_unit-le [] (n ∷ ns) z = absurd z
-most_unit-le (p ∷ kept) [] z = absurd z
-most_unit-le (p ∷ kept) (n ∷ ns) z =
-    let few = most_unit-le kept ns z.1 in
+-- no unit is above the limit
+pub greatest_unit-le : (kept : List KeptNode) (ns : List Node) → AllZip KeepsNode kept ns → greatest_unit kept ≤ most_unit
+greatest_unit-le [] [] z = omega arith
+greatest_unit-le [] (n ∷ ns) z = absurd z
+greatest_unit-le (p ∷ kept) [] z = absurd z
+greatest_unit-le (p ∷ kept) (n ∷ ns) z =
+    let few = greatest_unit-le kept ns z.1 in
     let x = z.0.x.small in
     let y = z.0.y.small in
     omega arith
@@ -63,7 +64,7 @@ find-same p q same [] = refl
 find-same p q same (x ∷ xs) = rw (same x, find-same p q same xs) refl
 
 abbrev powers : List ℕ
-powers = 0 ∷ 1 ∷ 2 ∷ 3 ∷ 4 ∷ 5 ∷ 6 ∷ []
+powers = range_with_len 0 (most_unit + 1)
 
 least_from : (u : ℕ) → u ≤ 6 → unwrap_or (find (leb u) powers) 6 ≡ u
 least_from zero h = refl
@@ -76,21 +77,21 @@ least_from (suc (suc (suc (suc (suc (suc zero)))))) h = refl
 least_from (suc (suc (suc (suc (suc (suc (suc u))))))) h = absurd (omega arith)
 
 -- The unit of a file is the greatest of its coordinates.
-pub unit_from : (kept : List KeptNode) (ns : List Node) → AllZip KeepsNode kept ns → most_unit kept ≡ unit ns
+pub unit_from : (kept : List KeptNode) (ns : List Node) → AllZip KeepsNode kept ns → greatest_unit kept ≡ unit ns
 unfolding unit
 unit_from kept ns z =
-    sym (ap (λ o. unwrap_or o 6) (find-same (are_whole ns) (leb (most_unit kept)) (are_whole_from kept ns z) powers)
-    ∙ least_from (most_unit kept) (most_unit-le kept ns z))
+    sym (ap (λ o. unwrap_or o 6) (find-same (are_whole ns) (leb (greatest_unit kept)) (are_whole_from kept ns z) powers)
+    ∙ least_from (greatest_unit kept) (greatest_unit-le kept ns z))
 
--- Every coordinate is whole in the unit of the file, which is at most 6.
+-- Every coordinate is whole in the unit of the file, which is within the limit.
 pub unit_within : (kept : List KeptNode) (ns : List Node) → AllZip KeepsNode kept ns → All (IsWithinUnit (unit ns)) kept
 unit_within kept ns z k d h =
     let u = unit_from kept ns z in
-    let b = max_bounds most_unit own_unit refl (λ x xs. refl) kept k d h in
+    let b = max_bounds greatest_unit own_unit refl (λ x xs. refl) kept k d h in
     record { x = omega arith; y = omega arith }
 
-pub unit_few : (kept : List KeptNode) (ns : List Node) → AllZip KeepsNode kept ns → unit ns ≤ 6
+pub unit_few : (kept : List KeptNode) (ns : List Node) → AllZip KeepsNode kept ns → unit ns ≤ most_unit
 unit_few kept ns z =
     let u = unit_from kept ns z in
-    let b = most_unit-le kept ns z in
+    let b = greatest_unit-le kept ns z in
     omega arith

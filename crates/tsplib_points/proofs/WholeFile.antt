@@ -4,6 +4,7 @@ use Rattle.std.specs.Option.{option_or, option_map}
 use Rattle.std.specs.List.{AllZip, list_all}
 use Rattle.std.proofs.lemmas.List.{length-map}
 use Rattle.std.proofs.lemmas.Slice.Zip.{AllZip-long}
+use Rattle.mwt_base.specs.Limits.{most_unit}
 use Rattle.exact_predicates.specs.declared.point.Point.{Point}
 use Rattle.exact_predicates.specs.PointSet.{PointSet}
 use Rattle.exact_predicates.specs.Merging.{points_code, is_in_range, has_distinct_ids, IsMadeFrom}
@@ -59,7 +60,7 @@ HasNodes-from bytes given found counted measured k all gathered section same cou
 pub nodes_within : (bytes : List ℕ) (found : Gathered) (k : ℕ) → HasNodes bytes found k → All (IsWithinUnit k) found.nodes.items
 nodes_within bytes found k h = rw h.least (unit_within found.nodes.items (nodes_of bytes) h.gathered.kept)
 
-pub unit_at_most : (bytes : List ℕ) (found : Gathered) (k : ℕ) → HasNodes bytes found k → k ≤ 6
+pub unit_at_most : (bytes : List ℕ) (found : Gathered) (k : ℕ) → HasNodes bytes found k → k ≤ most_unit
 unit_at_most bytes found k h = rw h.least (unit_few found.nodes.items (nodes_of bytes) h.gathered.kept)
 
 rules_left : (bytes : List ℕ) (found : Gathered) (k : ℕ) → HasNodes bytes found k

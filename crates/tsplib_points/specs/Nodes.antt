@@ -1,6 +1,7 @@
 -- Node lines.
 use Rattle.std.specs.Prelude.{ℕ, Bool, not, ◌&&◌, List, [], ◌∷◌, Option, Some, None, filter_map, ◌==◌, if◌then◌else◌}
 use Rattle.std.specs.List.{list_any}
+use Rattle.mwt_base.specs.Limits.{most_unit}
 use Rattle.tsplib_points.specs.declared.reason.Reason.{Reason}
 use Rattle.tsplib_points.specs.declared.reason.Reason.TheVariants.{CoordLine, NotWhole, RepeatedId}
 use Rattle.tsplib_points.specs.Lines.{Line, words}
@@ -42,6 +43,6 @@ has_number number n = n.number == number
 abbrev pub node_reason : List Node → Option Node → Option Reason
 node_reason before None = Some CoordLine
 node_reason before (Some n) =
-    if not (is_whole_node 6 n) then Some NotWhole
+    if not (is_whole_node most_unit n) then Some NotWhole
     else if list_any (has_number n.number) before then Some RepeatedId
     else None

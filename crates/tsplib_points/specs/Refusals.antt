@@ -1,9 +1,10 @@
 -- The refusal of a file: that of the first line that fails, or else that of the first rule of the whole file that fails.
-use Rattle.std.specs.Prelude.{ℕ, ◌^◌, Bool, false, not, ◌||◌, List, [], ◌∷◌, ◌++◌, length, map, find, Option, Some, None, unwrap_or, nat_lt, ◌==◌, if◌then◌else◌}
+use Rattle.std.specs.Prelude.{ℕ, ◌+◌, Bool, false, not, ◌||◌, List, [], ◌∷◌, ◌++◌, length, map, find, Option, Some, None, unwrap_or, ◌==◌, if◌then◌else◌}
 use Rattle.std.specs.Option.{option_or, option_map}
-use Rattle.std.specs.List.{list_any, list_all}
+use Rattle.std.specs.List.{list_any, list_all, range_with_len}
+use Rattle.mwt_base.specs.Limits.{most_unit}
 use Rattle.exact_predicates.specs.declared.point.Point.{Point}
-use Rattle.exact_predicates.specs.Merging.{points_code}
+use Rattle.exact_predicates.specs.Merging.{is_too_large, points_code}
 use Rattle.tsplib_points.specs.declared.file.Refusal.{Refusal}
 use Rattle.tsplib_points.specs.declared.reason.Reason.{Reason}
 use Rattle.tsplib_points.specs.declared.reason.Reason.TheVariants.{NoCoords, TooLarge, Count, TooMany, TooFew, Flat, AfterEnd}
@@ -33,23 +34,23 @@ first_failing before (l ∷ rest) =
 abbrev pub are_whole : List Node → ℕ → Bool
 are_whole ns k = list_all (is_whole_node k) ns
 
--- the least k from 0 to 6 for which that is so
+-- the least k from 0 up to the limit for which that is so
 unfoldable pub unit : List Node → ℕ
-unit ns = unwrap_or (find (are_whole ns) (0 ∷ 1 ∷ 2 ∷ 3 ∷ 4 ∷ 5 ∷ 6 ∷ [])) 6
+unit ns = unwrap_or (find (are_whole ns) (range_with_len 0 (most_unit + 1))) most_unit
 
 -- a node with its coordinates times 10^k
 abbrev pub scaled : ℕ → Node → Point
 scaled k n = record { id = n.number; x = times k n.x; y = times k n.y }
 
--- a coordinate times 10^k is above 10^9 in size
+-- a coordinate times 10^k is out of range
 abbrev pub is_large : ℕ → Node → Bool
-is_large k n = nat_lt (10 ^ 9) (size_times k n.x) || nat_lt (10 ^ 9) (size_times k n.y)
+is_large k n = is_too_large (size_times k n.x) || is_too_large (size_times k n.y)
 
 abbrev pub is_count : Option ℕ → ℕ → Bool
 is_count None n = false
 is_count (Some told) n = told == n
 
--- The refusal of the whole file for a rule that a list of points breaks, by the number of that rule: 2, more than 10,000
+-- The refusal of the whole file for a rule that a list of points breaks, by the number of that rule: 2, too many
 -- stay; 1, fewer than 3 stay; 3, all lie on one line. No other rule is broken where the nodes have distinct numbers and
 -- no scaled coordinate is too large.
 abbrev pub points_refusal : Option ℕ → Option Refusal

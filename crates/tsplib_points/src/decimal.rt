@@ -1,9 +1,13 @@
 // What is kept of a coordinate.
 ghost use Rattle.std.specs.Prelude.{◌≡◌, ◌<◌, ◌≤◌, ◌^◌, false, MatchOption};
+ghost use Rattle.mwt_base.specs.Limits.{most_unit};
 ghost use Rattle.tsplib_points.specs.Real.{Real, is_whole};
 ghost use Rattle.tsplib_points.specs.Kept.{IsRead, Keeps};
 
 use crate::digits::{Digits, shifted};
+
+// The most decimals that a coordinate may need, which the contract of `keep` says.
+const MOST_UNIT: u64 = 6;
 
 /// A decimal: its size is `size` times 10^-`unit`, and `unit` is the least that makes `size` whole, at
 /// most 6. A size above 10^9 is kept as 10^9 + 1.
@@ -34,14 +38,14 @@ impl Reading {
         requires left_in { self.left ≤ 2 ^ 40 }
         ensures { (r : Real) →
             IsRead self.negative self.digits.head self.digits.zeros self.places self.right self.left r →
-            MatchOption result (is_whole 6 r ≡ false) (λ d. Keeps d.negative d.unit d.size r) }
+            MatchOption result (is_whole most_unit r ≡ false) (λ d. Keeps d.negative d.unit d.size r) }
     {
         let head = self.digits.head;
         let up = self.digits.zeros + self.right;
         let down = self.places + self.left;
         let (unit, size) = if head == 0 {
             (0, 0)
-        } else if up + 6 < down {
+        } else if up + MOST_UNIT < down {
             return None;
         } else if up < down {
             ((down - up) as u8, head as u32)

@@ -1,6 +1,7 @@
 // The digits of a decimal.
 ghost use Rattle.std.specs.Prelude.{◌≡◌, ◌+◌, ◌-◌, ◌*◌, ◌<◌, ◌≤◌, ◌^◌, ◌++◌, ℕ, true, List, length, min};
 ghost use Rattle.std.specs.List.{list_all};
+ghost use Rattle.mwt_base.specs.Limits.{most_coordinate};
 ghost use Rattle.tsplib_points.specs.Numbers.{is_digit, number};
 ghost use Rattle.tsplib_points.specs.Kept.{Holds};
 
@@ -11,9 +12,9 @@ const CAP: u64 = 1_000_000_001;
 
 /// `n` times 10^`k` and `d`, up to the cap.
 pub fn shifted(n: u64, k: u64, d: u64) -> u64
-    requires n_in { n ≤ 1000000001 }
+    requires n_in { n ≤ most_coordinate + 1 }
     requires d_in { d ≤ 9 }
-    ensures { result ≡ min (n * 10 ^ k + d) 1000000001 }
+    ensures { result ≡ min (n * 10 ^ k + d) (most_coordinate + 1) }
 {
     if n == 0 {
         return d;
@@ -29,7 +30,7 @@ pub fn shifted(n: u64, k: u64, d: u64) -> u64
 pub struct Digits {
     pub head: u64,
     pub zeros: u64,
-    pub ghost capped: { head ≤ 1000000001 },
+    pub ghost capped: { head ≤ most_coordinate + 1 },
 }
 
 impl Digits {

@@ -1,6 +1,7 @@
 // Reads a point file.
-ghost use Rattle.std.specs.Prelude.{◌≡◌, ◌⊎◌, ◌<◌, ◌^◌, length, IsTrue, true, Some, IfOk, IfErr};
+ghost use Rattle.std.specs.Prelude.{◌≡◌, ◌⊎◌, ◌<◌, ◌≤◌, ◌^◌, length, IsTrue, true, Some, IfOk, IfErr};
 ghost use Rattle.std.specs.List.{list_all};
+ghost use Rattle.mwt_base.specs.Limits.{most_unit};
 ghost use Rattle.exact_predicates.specs.Merging.{IsMadeFrom, points_code, has_distinct_ids, is_in_range};
 ghost use Rattle.tsplib_points.specs.declared.file.Refusal.{Refusal as refusal_type};
 ghost use Rattle.tsplib_points.specs.Reasons.{refused};
@@ -64,6 +65,7 @@ fn lawful(alloc: Global, list: PointList) -> Result<Points, FileStop>
 /// The time is linear in the bytes, but for sorting.
 pub fn read_points(alloc: Global, bytes: &Bytes) -> Result<File, FileStop>
     ensures file { IfOk result (λ file. IsFileOf bytes.now file) }
+    ensures unit { IfOk result (λ file. file.unit ≤ most_unit) }
     ensures refused { IfErr result (λ stop. (why : refusal_type) → stop ≡ FileStop.Refused why →
         refusal bytes.now ≡ Some why) }
 {

@@ -1,3 +1,4 @@
+-- A number that is moved by more than nine places is above the cap.
 use Rattle.std.proofs.Common.{arith}
 use Rattle.tsplib_points.proofs.Tens.{large_plus}
 use Rattle.tsplib_points.proofs.digits.shifted.Goals as goal

@@ -1,3 +1,4 @@
+-- What a line of the section is: no node where a word is missing or reads as nothing, else the node of its three words.
 use Rattle.std.proofs.Common.{ap}
 use Rattle.tsplib_points.specs.Nodes.{node_reason}
 use Rattle.tsplib_points.proofs.NodeTexts.{none_of_none, none_of_one, none_of_two, none_of_four, of_three}

@@ -1,3 +1,4 @@
+-- The number of the digits as far as the loop has come.
 use Rattle.std.proofs.Common.{refl, arith, sym, ◌∙◌}
 use Rattle.tsplib_points.proofs.DigitTexts.{number_none, number_more, digits_more}
 use Rattle.tsplib_points.proofs.numbers.number_up_to.Goals as goal

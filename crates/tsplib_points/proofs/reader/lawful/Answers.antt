@@ -1,3 +1,4 @@
+-- Points in range with distinct ids can break but three rules.
 use Rattle.exact_predicates.proofs.Codes.{points_code-late}
 use Rattle.tsplib_points.proofs.reader.lawful.Goals as goal
 

@@ -1,3 +1,4 @@
+-- Each refusal has its rule, and the points are those of the file.
 use Rattle.std.proofs.Common.{sym, ◌∙◌, refl, arith}
 use Rattle.std.proofs.lemmas.Result.{err_from_is_err_and}
 use Rattle.tsplib_points.proofs.Rules.{refusal-line}
@@ -75,3 +76,9 @@ returns-clause-file c =
     let points = HasPoints-from c.args.bytes.now c.in_ok-found.found c.unit_of-unit.result c.in_ok-points.points.items nodes c.in_ok-points.ensures.scaled c.in_ok-points.ensures.in_range in
     rw (c.from.ensures, c.merged-merged.ensures)
     (is_file c.args.bytes.now c.in_ok-found.found c.unit_of-unit.result c.in_ok-points.points.items c.in_ok-points-2.points points (rw c.of.ensures at c.in_ok-points-2.ensures.made))
+
+pub returns-clause-unit : goal.returns-clause-unit
+returns-clause-unit c =
+    let nodes = HasNodes-from c.args.bytes.now _ c.in_ok-found.found _ _ c.unit_of-unit.result c.as_slice.ensures.is c.in_ok-found.ensures.found c.if-not-found.false
+    c.deref.ensures.value c.if-not-is_count.ensures.is c.deref-2.ensures.value c.unit_of-unit.ensures in
+    rw c.from.ensures (unit_at_most c.args.bytes.now c.in_ok-found.found c.unit_of-unit.result nodes)

@@ -1,3 +1,4 @@
+-- The digits on both sides of the point are one number.
 use Rattle.std.proofs.Common.{[]}
 use Rattle.tsplib_points.specs.Numbers.{number}
 use Rattle.tsplib_points.specs.Real.{is_point}

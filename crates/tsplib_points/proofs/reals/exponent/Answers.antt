@@ -1,3 +1,4 @@
+-- Without an exponent the point stays where it is.
 use Rattle.tsplib_points.proofs.RealTexts.{no_right}
 use Rattle.tsplib_points.proofs.reals.exponent.Goals as goal
 

@@ -1,3 +1,4 @@
+-- Whether a text has the form of a real, and what is read of it.
 use Rattle.std.proofs.Common.{◌∙◌, sym, ap, is_some}
 use Rattle.std.specs.List.{list_any, before_first, after_first}
 use Rattle.tsplib_points.specs.Real.{is_power}

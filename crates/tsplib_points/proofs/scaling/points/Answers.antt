@@ -1,3 +1,4 @@
+-- The points of the nodes as far as the loop has come.
 use Rattle.std.proofs.Common.{◌∙◌}
 use Rattle.tsplib_points.proofs.ScaledPoints.{AreScaled-more, AreScaled-all, AreScaled-refused}
 use Rattle.tsplib_points.proofs.scaling.points.Goals as goal

@@ -1,3 +1,4 @@
+-- What is kept of a real, by how many decimals it needs.
 use Rattle.tsplib_points.proofs.KeptReals.{keeps_zero, not_kept, keeps_fraction, keeps_whole}
 use Rattle.tsplib_points.proofs.decimal.Reading.keep.Goals as goal
 

@@ -1,3 +1,4 @@
+-- One digit more: a digit above 0 moves the zeros before it into the head.
 use Rattle.std.proofs.Common.{◌≡◌, ◌-◌, arith}
 use Rattle.tsplib_points.proofs.Tens.{holds_push, holds_more, digit_low, digit_high}
 use Rattle.tsplib_points.proofs.digits.Digits.push.Goals as goal

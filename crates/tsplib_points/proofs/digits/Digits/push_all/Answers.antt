@@ -1,3 +1,4 @@
+-- The digits as far as the loop has come.
 use Rattle.std.proofs.Common.{arith, sym, ◌∙◌}
 use Rattle.tsplib_points.proofs.DigitTexts.{number_more_behind, digits_more}
 use Rattle.tsplib_points.proofs.digits.Digits.push_all.Goals as goal

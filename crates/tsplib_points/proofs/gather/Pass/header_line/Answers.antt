@@ -1,3 +1,4 @@
+-- One line of the header: what it marks, or why it fails.
 use Rattle.std.proofs.Common.{Some, sym, ap, ◌∙◌}
 use Rattle.tsplib_points.specs.Lines.{Line}
 use Rattle.tsplib_points.specs.Header.{header_reason, parts_of}

@@ -1,3 +1,4 @@
+-- One line, by the part of the file where it stands.
 use Rattle.std.proofs.Common.{Some, sym, ap, ◌∙◌}
 use Rattle.tsplib_points.specs.Lines.{Line}
 use Rattle.tsplib_points.proofs.Steps.{reason_blank, reason_ended, blank_nothing, passes_nothing}

@@ -1,3 +1,4 @@
+-- Before the first line nothing was seen.
 use Rattle.std.proofs.Common.{refl}
 use Rattle.tsplib_points.proofs.Steps.{passes_none}
 use Rattle.tsplib_points.proofs.gather.Pass.new.Goals as goal

@@ -1,3 +1,4 @@
+-- One line of the section: the end, a node, or why it fails.
 use Rattle.std.proofs.Common.{refl, Some, sym, ap, ◌∙◌}
 use Rattle.std.proofs.lemmas.Bool.{not-true, not-false}
 use Rattle.tsplib_points.specs.Lines.{Line}

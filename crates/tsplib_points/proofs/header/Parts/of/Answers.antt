@@ -1,3 +1,4 @@
+-- A line is cut at its first colon.
 use Rattle.std.proofs.Common.{◌≡◌, ◌∙◌, refl, ap, is_some}
 use Rattle.std.specs.List.{list_any}
 use Rattle.tsplib_points.specs.Lines.{trim}
