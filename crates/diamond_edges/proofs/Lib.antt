@@ -1,5 +1,4 @@
-pub mod Batches
+pub mod Ends
 pub mod Marks
-pub mod Lists
-pub mod RowLists
+pub mod Opens
 pub mod Walks

@@ -5,10 +5,7 @@ use Rattle.std.proofs.lemmas.Int.{ints}
 use Rattle.std.proofs.lemmas.List.{get_or_default}
 use Rattle.std.proofs.lemmas.List.Sorted.{Contains-permutation}
 use Rattle.std.specs.List.Sorted.{IsPermutation}
-use Rattle.exact_predicates.specs.declared.diamond.Diamond.{Diamond}
-use Rattle.exact_predicates.specs.declared.edge.Edge.{Edge}
 use Rattle.exact_predicates.specs.declared.point.Point.{Point}
-use Rattle.exact_predicates.specs.Candidates.{IsCandidate, PassesDiamond}
 use Rattle.exact_predicates.specs.Plane.{orient}
 use Rattle.exact_predicates.specs.Plane.{IsBetween}
 use Rattle.exact_predicates.specs.PointSet.{IsPointSet, point_at}
@@ -44,15 +41,6 @@ module _ (ps : List Point) (a : ℕ) (order : List ℕ) (v : IsPointSet ps) (a_i
         let is : slice_index order j ≡ b = get_or_default order j 0 b j_in ∙ at_j in
         subst (λ (x : ℕ). IsTrue (slice_index_or marks x false) ↔ Sees ps a x) is (m.marked j (omega arith));
   }
-
--- what is marked and passes the test is a candidate, and nothing else is
-pub IsCandidate-marked : (ps : List Point) (hull : List ℕ) (diamond : Diamond) (marks : List Bool) (e : Edge) → MarksSeen ps e.a marks → e.b < length ps
-    → IsCandidate ps hull diamond e ↔ (IsTrue (slice_index_or marks e.b false) × PassesDiamond diamond ps hull e)
-IsCandidate-marked ps hull diamond marks e m b_in =
-    let marked = m.marked e.b e.ascending b_in in (
-      λ c. (marked.1 c.clear, c.passes),
-      λ h. record { b_in = b_in; clear = marked.0 h.0; passes = h.1 },
-    )
 
 -- what a sees among all later points, it sees
 pub Sees-later : (ps : List Point) (a b : ℕ) (order : List ℕ) → IsPointSet ps → a < b → b < length ps → AreByDirection ps a order → ((r : ℕ) → a < r → r < length ps → Contains order r) → SeesPast ps a order b ↔ Sees ps a b

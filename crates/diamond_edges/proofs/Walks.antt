@@ -8,6 +8,7 @@ use Rattle.std.proofs.lemmas.List.Sorted.{Contains-permutation, IsPermutation-sy
 use Rattle.std.proofs.lemmas.Map.Keys.{IsStrictlyIncreasing-dedup}
 use Rattle.std.specs.List.{dedup}
 use Rattle.std.specs.List.Sorted.{IsPermutation, IsSorted}
+use Rattle.exact_predicates.specs.declared.diamond.Diamond.TheVariants.{On}
 use Rattle.exact_predicates.specs.declared.point.Point.{Point}
 use Rattle.exact_predicates.specs.Blocking.{Blocks}
 use Rattle.exact_predicates.specs.PointSet.{point_at}
@@ -37,7 +38,7 @@ same_leaf es k s t leaf other =
 
 module _ (ps : List Point) (a : ℕ) (es : List Entry) where
   -- where there is none to add
-  pub Adds-none : (lo hi : ℕ) (row : List ℕ) → ((k : ℕ) (s : Spot) → lo ≤ k → k < hi → HasLeaf es k s → ¬ IsNext ps a s.number) → Adds ps a es lo hi row row
+  pub Adds-none : (lo hi : ℕ) (row : List ℕ) → ((k : ℕ) (s : Spot) → lo ≤ k → k < hi → HasLeaf es k s → ¬ IsNext On ps a s.number) → Adds ps a es lo hi row row
   Adds-none lo hi row none = record {
     kept = λ b c. c;
     only = λ b c. inl c;
@@ -61,7 +62,7 @@ module _ (ps : List Point) (a : ℕ) (es : List Entry) where
   }
 
   -- an entry that is none to add
-  pub Adds-skip : (lo hi : ℕ) (r0 r1 : List ℕ) → Adds ps a es lo hi r0 r1 → ((s : Spot) → HasLeaf es hi s → ¬ IsNext ps a s.number) → Adds ps a es lo (hi + 1) r0 r1
+  pub Adds-skip : (lo hi : ℕ) (r0 r1 : List ℕ) → Adds ps a es lo hi r0 r1 → ((s : Spot) → HasLeaf es hi s → ¬ IsNext On ps a s.number) → Adds ps a es lo (hi + 1) r0 r1
   Adds-skip lo hi r0 r1 h none = record {
     kept = h.kept;
     only = h.only;
@@ -73,10 +74,10 @@ module _ (ps : List Point) (a : ℕ) (es : List Entry) where
   }
 
   -- a spot to add
-  pub Adds-push : (lo hi : ℕ) (r0 r1 : List ℕ) (s : Spot) → Adds ps a es lo hi r0 r1 → HasLeaf es hi s → IsNext ps a s.number → Adds ps a es lo (hi + 1) r0 (r1 ++ s.number ∷ [])
+  pub Adds-push : (lo hi : ℕ) (r0 r1 : List ℕ) (s : Spot) → Adds ps a es lo hi r0 r1 → HasLeaf es hi s → IsNext On ps a s.number → Adds ps a es lo (hi + 1) r0 (r1 ++ s.number ∷ [])
   Adds-push lo hi r0 r1 s h leaf next = record {
     kept = λ b c. Contains-append_left r1 _ b (h.kept b c);
-    only = λ b c. ⊎_elim (λ d. h.only b d) (λ e. inr (subst (IsNext ps a) e next)) (Contains-push_cases r1 s.number b c);
+    only = λ b c. ⊎_elim (λ d. h.only b d) (λ e. inr (subst (IsNext On ps a) e next)) (Contains-push_cases r1 s.number b c);
     found = λ k t l m other n.
         ⊎_elim
         (λ e. Contains-append_left r1 _ t.number (h.found k t l e other n))
@@ -92,19 +93,20 @@ entry_leaf es k e s is leaf = is ∙ (get_or_default es k e (Leaf s) leaf.0 ∙ 
 
 -- what has been added in all, in order and each once
 pub IsRow-made : (ps : List Point) (a : ℕ) (es : List Entry) (added sorted row : List ℕ) → AreSpotsOf ps es → Adds ps a es 0 (length es) [] added
-    → IsPermutation added sorted → IsSorted nat_cmp sorted → row ≡ dedup eqb sorted → IsRow ps a row
+    → IsPermutation added sorted → IsSorted nat_cmp sorted → row ≡ dedup eqb sorted → IsRow On ps a row
 IsRow-made ps a es added sorted row t h moved order is =
-    subst (IsRow ps a) (sym is)
+    subst (IsRow On ps a) (sym is)
     (record {
       ascending = AllPairs-from_increasing _ (IsStrictlyIncreasing-dedup sorted order);
-      each = All-weaker (Contains (dedup eqb sorted)) (IsNext ps a) next (dedup eqb sorted) (All-contains_itself (dedup eqb sorted));
-      all = λ b n.
+      are = All-weaker (Contains (dedup eqb sorted)) (λ b. b < length ps) (λ b c. (next b c).1) (dedup eqb sorted) (All-contains_itself (dedup eqb sorted));
+      each = All-weaker (Contains (dedup eqb sorted)) (IsNext On ps a) next (dedup eqb sorted) (All-contains_itself (dedup eqb sorted));
+      all = λ b _ n.
           let (k, s, leaf, same) = t.all b n.1 in
-          let found = h.found k s (omega arith) leaf.0 leaf (subst (IsNext ps a) (sym same) n) in
+          let found = h.found k s (omega arith) leaf.0 leaf (subst (IsNext On ps a) (sym same) n) in
           Contains-dedup_nat sorted b (Contains-permutation added sorted b moved (subst (Contains added) same found));
     })
   where
-    next : (b : ℕ) → Contains (dedup eqb sorted) b → IsNext ps a b
+    next : (b : ℕ) → Contains (dedup eqb sorted) b → IsNext On ps a b
     next b c =
         ⊎_elim
         (λ none. absurd (let l = none.1 in omega arith))

@@ -1,11 +1,15 @@
--- Rows of the candidate edges with the diamond test on, by their lesser ends.
-use Rattle.std.specs.Prelude.{◌≡◌, ◌⊎◌, ℕ, ◌<◌, ◌≤◌, List, length, All, AllPairs, Contains}
+-- Rows of the candidate edges, by their lesser ends.
+use Rattle.std.specs.Prelude.{◌≡◌, ◌⊎◌, ℕ, ◌<◌, ◌≤◌, List, length, All, Contains}
+use Rattle.exact_predicates.specs.declared.diamond.Diamond.{Diamond}
+use Rattle.exact_predicates.specs.declared.diamond.Diamond.TheVariants.{On}
 use Rattle.exact_predicates.specs.declared.point.Point.{Point}
-use Rattle.exact_predicates.specs.Blocking.{Blocks, IsFree}
+use Rattle.exact_predicates.specs.Blocking.{Blocks}
 use Rattle.exact_predicates.specs.PointSet.{point_at}
 use Rattle.point_grid.specs.declared.spot.Entry.{Entry}
 use Rattle.point_grid.specs.declared.spot.Spot.{Spot}
+use Rattle.point_grid.specs.Listing.{IsListing}
 use Rattle.point_grid.specs.Tree.{HasLeaf}
+use Rattle.diamond_edges.specs.Enumeration.{IsOpen}
 
 -- some point of ps blocks the left side of p to q
 abbrev pub IsBlocked : List Point → Point → Point → Type 0
@@ -15,25 +19,19 @@ IsBlocked ps p q = (r : ℕ) × (r < length ps) × Blocks p q (point_at ps r)
 abbrev pub IsClear : List Point → Point → Point → Type 0
 IsClear ps p q = (r : ℕ) → r < length ps → ¬ Blocks p q (point_at ps r)
 
--- a side of a to b is free
-abbrev pub IsLinked : List Point → ℕ → ℕ → Type 0
-IsLinked ps a b = IsFree ps a b ⊎ IsFree ps b a
+-- b is the greater end of a candidate edge from a
+abbrev pub IsNext : Diamond → List Point → ℕ → ℕ → Type 0
+IsNext diamond ps a b = (a < b) × (b < length ps) × IsOpen diamond ps a b
 
--- b is the greater end of an edge from a with a free side
-abbrev pub IsNext : List Point → ℕ → ℕ → Type 0
-IsNext ps a b = (a < b) × (b < length ps) × IsLinked ps a b
-
--- the greater ends of the edges from a with a free side, ascending
-pub record IsRow (ps : List Point) (a : ℕ) (row : List ℕ) : Type 0 where
-  pub ascending : AllPairs (λ b c. b < c) row
-  pub each : All (IsNext ps a) row
-  pub all : (b : ℕ) → IsNext ps a b → Contains row b
+-- the greater ends of the candidate edges from a, ascending
+abbrev pub IsRow : Diamond → List Point → ℕ → List ℕ → Type 0
+IsRow diamond ps a row = IsListing (λ b c. b < c) (IsNext diamond ps a) (λ b. b < length ps) row
 
 -- the new row has the greater ends of the old one, those of such edges to spots from the entry lo on and before hi, and no other
 pub record Adds (ps : List Point) (a : ℕ) (es : List Entry) (lo hi : ℕ) (old new : List ℕ) : Type 0 where
   pub kept : (b : ℕ) → Contains old b → Contains new b
-  pub only : (b : ℕ) → Contains new b → Contains old b ⊎ IsNext ps a b
-  pub found : (k : ℕ) (s : Spot) → lo ≤ k → k < hi → HasLeaf es k s → IsNext ps a s.number → Contains new s.number
+  pub only : (b : ℕ) → Contains new b → Contains old b ⊎ IsNext On ps a b
+  pub found : (k : ℕ) (s : Spot) → lo ≤ k → k < hi → HasLeaf es k s → IsNext On ps a s.number → Contains new s.number
 
 -- numbers of points in 32 directions, which may be any
 abbrev pub AreGuesses : List Point → List ℕ → Type 0

@@ -1,10 +1,9 @@
 //! The candidate edges of a set of points, in ascending order.
 #![tactic(auto)]
 
-mod batch;
+mod blocks;
 mod link;
-mod linked;
-mod push;
+mod row;
 mod rows;
 mod seen;
 mod slots;

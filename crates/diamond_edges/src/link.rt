@@ -2,7 +2,8 @@
 ghost use Rattle.std.specs.Prelude.{◌<◌, ◌↔◌, IsTrue, MatchBool, length};
 ghost use Rattle.exact_predicates.specs.Plane.{IsInRange};
 ghost use Rattle.point_grid.specs.Tree.{AreSpotsOf};
-ghost use Rattle.diamond_edges.specs.Rows.{AreGuesses, IsBlocked, IsClear, IsLinked};
+ghost use Rattle.diamond_edges.specs.Enumeration.{IsLinked};
+ghost use Rattle.diamond_edges.specs.Rows.{AreGuesses, IsBlocked, IsClear};
 
 use crate::slots::{direction, slot_blocks};
 use exact_predicates::{Point, Points};

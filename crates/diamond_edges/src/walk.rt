@@ -1,5 +1,6 @@
 // The candidate edges from one point, by a walk through the tree.
 ghost use Rattle.std.specs.Prelude.{ℕ, ◌*◌, ◌^◌, ◌<◌, ◌≤◌, length, OnOk, IfOk, IsTrue, unsigned_abs};
+ghost use Rattle.exact_predicates.specs.declared.diamond.Diamond.TheVariants.{On};
 ghost use Rattle.exact_predicates.specs.Plane.{IsInRange};
 ghost use Rattle.exact_predicates.specs.PointSet.{point_at};
 ghost use Rattle.point_grid.specs.Frames.{IsInFrame};
@@ -16,7 +17,7 @@ use std::alloc::Global;
 /// The greater ends of the edges from the point `a` with a free side, ascending. What does not lie
 /// near `a` is passed over in whole frames, so that for points that are spread evenly it takes about
 /// as long as there are such edges, times log n.
-pub(crate) fn row(
+pub(crate) fn ends_linked(
     alloc: Global,
     points: &Points,
     tree: &BoxTree,
@@ -24,7 +25,7 @@ pub(crate) fn row(
 ) -> Result<Vec<u32>, NoMemory>
     requires tree { AreSpotsOf points.now.points tree.now }
     requires a_in { a < length points.now.points }
-    ensures { IfOk result (λ row. IsRow points.now.points a row.items) }
+    ensures { IfOk result (λ row. IsRow On points.now.points a row.items) }
 {
     let mut slots = vec![in alloc; a; SLOTS]?;
     let mut row = Vec::new(alloc);
@@ -87,7 +88,7 @@ fn walk(
 fn is_passed_over(points: &Points, a: u32, slots: &[u32], frame: &Frame) -> bool
     requires a_in { a < length points.now.points }
     requires slots { AreGuesses points.now.points slots.now }
-    ensures { IsTrue result → (b : ℕ) → IsInFrame frame.now (point_at points.now.points b) → ¬ IsNext points.now.points a b }
+    ensures { IsTrue result → (b : ℕ) → IsInFrame frame.now (point_at points.now.points b) → ¬ IsNext On points.now.points a b }
 {
     let _count = points.len();
     let p = points.at(a);

@@ -1,8 +1,10 @@
 pub mod Bits
 pub mod FlatForms
 pub mod Growing
+pub mod Listings
 pub mod Parting
 pub mod Places
 pub mod Rays
 pub mod Sights
+pub mod ThreadRows
 pub mod Windows

@@ -3,6 +3,7 @@ pub mod Directions
 pub mod First
 pub mod Flat
 pub mod Frames
+pub mod Listing
 pub mod Numbered
 pub mod Tree
 pub mod Views

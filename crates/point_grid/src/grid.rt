@@ -4,8 +4,10 @@ ghost use Rattle.exact_predicates.specs.Plane.{orient, IsBetween, IsInClosedTria
 ghost use Rattle.exact_predicates.specs.PointSet.{point_at};
 ghost use Rattle.exact_predicates.specs.Triangulation.{IsCorner};
 ghost use Rattle.point_grid.specs.First.{IsFirst};
+ghost use Rattle.point_grid.specs.Tree.{AreSpotsOf};
 ghost use Rattle.point_grid.specs.Windows.{AreAllIn};
 
+use crate::box_tree::BoxTree;
 use crate::window::Window;
 use exact_predicates::{Point, Points, Tri, in_closed_triangle, in_left_diamond, strictly_between};
 use mwt_base::NoMemory;
@@ -16,18 +18,20 @@ use std::marker::Model;
 #[derive(Drop)]
 pub struct Grid {
     points: Vec<Point>,
+    tree: BoxTree,
 }
 
 impl Model for Grid {
     ghost use Rattle.std.specs.Prelude.{List};
     ghost use Rattle.exact_predicates.specs.declared.point.Point.{Point};
     ghost use Rattle.exact_predicates.specs.PointSet.{IsPointSet};
+    ghost use Rattle.point_grid.specs.Tree.{AreSpotsOf};
 
     ghost Value = { List Point };
 
     ghost view = { λ g. g.points.items };
 
-    ghost invariant = { λ g. IsPointSet g.points.items };
+    ghost invariant = { λ g. IsPointSet g.points.items × AreSpotsOf g.points.items g.tree };
 }
 
 impl Grid {
@@ -35,8 +39,16 @@ impl Grid {
     pub fn new(alloc: Global, points: &Points) -> Result<Grid, NoMemory>
         ensures { IfOk result (λ grid. grid ≡ points.now.points) }
     {
+        let tree = BoxTree::new(alloc, points)?;
         let points = Vec::from_slice(alloc, points.as_slice())?;
-        Ok(Grid { points })
+        Ok(Grid { points, tree })
+    }
+
+    /// The points in a tree of frames.
+    pub fn tree(&self) -> &BoxTree
+        ensures { AreSpotsOf self.now result.now }
+    {
+        &self.tree
     }
 
     /// The least number of a point strictly between the points `p` and `q`, or none.
@@ -98,7 +110,12 @@ impl Grid {
     }
 
     /// The numbers of the points in a window, each once, in any order.
-    pub fn in_window(&self, alloc: Global, points: &Points, window: Window) -> Result<Vec<u32>, NoMemory>
+    pub fn in_window(
+        &self,
+        alloc: Global,
+        points: &Points,
+        window: Window,
+    ) -> Result<Vec<u32>, NoMemory>
         requires made { self.now ≡ points.now.points }
         requires window_in { window.to ≤ length points.now.points }
         ensures { IfOk result (λ numbers. AreAllIn points.now.points window numbers.items) }

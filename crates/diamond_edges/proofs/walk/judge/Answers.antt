@@ -1,4 +1,5 @@
 use Rattle.std.proofs.Common.{arith, sym, subst}
+use Rattle.exact_predicates.specs.declared.diamond.Diamond.TheVariants.{On}
 use Rattle.point_grid.specs.declared.spot.Spot.{Spot}
 use Rattle.point_grid.specs.Tree.{HasLeaf}
 use Rattle.diamond_edges.specs.Rows.{IsNext}
@@ -24,7 +25,7 @@ loop-k-2-preserved c =
           rw w.row-is
           (Adds-skip ps c.args.a es c.args.low k _ _ c.loop-k-2.invariant
           (λ t other m.
-          let n = subst (λ (x : Spot). IsNext ps c.args.a x.number) (sym (same_leaf es k s t leaf other)) m in
+          let n = subst (λ (x : Spot). IsNext On ps c.args.a x.number) (sym (same_leaf es k s t leaf other)) m in
           elim w.else-a-spot.branch [
             | else-a-spot-via-then-a-spot+else-is_linked v ↦ let yes = v.is_linked.ensures.1 n.2 in let no = v.if-is_linked.false in cc
             | else-a-spot-via-else-a-spot v ↦ let l = n.0 in let h = v.if-a-spot.false in omega arith

@@ -6,7 +6,7 @@ use Rattle.point_grid.proofs.grid.Grid.any_between.Goals as goal
 
 pub loop-r-init : goal.loop-r-init
 loop-r-init c = λ k l h.
-    let valid = subst IsPointSet (c.self.view_is ∙ c.requires.made) c.self.invariant in
+    let valid = subst IsPointSet (c.self.view_is ∙ c.requires.made) c.self.invariant.0 in
     let n = IsBetween-numbers c.args.points.now.points c.args.p c.args.q k valid c.requires.p_in c.requires.q_in (omega arith) c.requires.apart h in
     omega (arith, n.0)
 
@@ -18,6 +18,6 @@ loop-r-preserved c =
 
 pub returns : goal.returns
 returns c = λ k l h.
-    let valid = subst IsPointSet (c.self.view_is ∙ c.requires.made) c.self.invariant in
+    let valid = subst IsPointSet (c.self.view_is ∙ c.requires.made) c.self.invariant.0 in
     let n = IsBetween-numbers c.args.points.now.points c.args.p c.args.q k valid c.requires.p_in c.requires.q_in l c.requires.apart h in
     c.loop-r.invariant k (omega (arith, n.0, n.1)) h

@@ -8,7 +8,7 @@ use Rattle.point_grid.proofs.grid.Grid.any_in_closed_triangle.Goals.{else-r-t-vi
 pub loop-r-init : goal.loop-r-init
 loop-r-init c = λ k l h.
     let t = c.args.t in
-    let valid = subst IsPointSet (c.self.view_is ∙ c.requires.made) c.self.invariant in
+    let valid = subst IsPointSet (c.self.view_is ∙ c.requires.made) c.self.invariant.0 in
     let n = triangle_numbers c.args.points.now.points t.a t.b t.c k valid (omega arith) c.requires.b_in c.requires.c_in (omega arith) c.requires.turns_left h.1 in
     h.0 (inl (omega (arith, n.0)))
 
@@ -27,7 +27,7 @@ loop-r-preserved c =
 pub returns : goal.returns
 returns c = λ k l h.
     let t = c.args.t in
-    let valid = subst IsPointSet (c.self.view_is ∙ c.requires.made) c.self.invariant in
+    let valid = subst IsPointSet (c.self.view_is ∙ c.requires.made) c.self.invariant.0 in
     let n = triangle_numbers c.args.points.now.points t.a t.b t.c k valid (omega arith) c.requires.b_in c.requires.c_in l c.requires.turns_left h.1 in
     let not_b : k ≢ t.b = λ e. h.0 (inr (inl e)) in
     let not_c : k ≢ t.c = λ e. h.0 (inr (inr e)) in

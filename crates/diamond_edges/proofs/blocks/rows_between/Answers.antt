@@ -1,8 +1,11 @@
 use Rattle.std.proofs.Common.{arith}
 use Rattle.rayon.proofs.ToStd.{nat_range-All}
-use Rattle.diamond_edges.specs.Batches.{IsReady}
-use Rattle.diamond_edges.proofs.Batches.{AreRows-zip}
-use Rattle.diamond_edges.proofs.batch.rows_between.Goals as goal
+use Rattle.mwt_base.specs.declared.outside.NoMemory.{NoMemory}
+use Rattle.exact_predicates.specs.declared.edge.Edge.{Edge}
+use Rattle.exact_predicates.specs.Candidates.{EdgePrecedes}
+use Rattle.point_grid.proofs.ThreadRows.{rows_made}
+use Rattle.diamond_edges.specs.Enumeration.{IsOpenEdge, IsReady}
+use Rattle.diamond_edges.proofs.blocks.rows_between.Goals as goal
 
 pub collect-requires-clause-ready : goal.collect-requires-clause-ready
 collect-requires-clause-ready g c κs within =
@@ -15,4 +18,4 @@ pub returns : goal.returns
 returns g c =
     let ends = c.into_par_iter.ensures in
     let h = rw (c.map.ensures.base, c.map.ensures.f, c.with_min_len.ensures.base, ends.0, ends.1) at c.in_ok-collect.ensures in
-    AreRows-zip _ c.args.a c.args.to h.0 _ c.requires.a_to (rw h.1.1 at h.1.2) h.2
+    rows_made Edge EdgePrecedes (IsOpenEdge c.args.diamond c.args.points.now.points) (λ (e : Edge). e.a) NoMemory c.args.a c.args.to h.0 _ c.requires.a_to (rw h.1.1 at h.1.2) h.2

@@ -1,6 +1,6 @@
 use Rattle.std.proofs.lemmas.List.Filters.{dedup_is}
 use Rattle.diamond_edges.proofs.Walks.{IsRow-made}
-use Rattle.diamond_edges.proofs.walk.row.Goals as goal
+use Rattle.diamond_edges.proofs.walk.ends_linked.Goals as goal
 
 pub returns : goal.returns
 returns c =
