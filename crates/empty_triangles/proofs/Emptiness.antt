@@ -29,12 +29,6 @@ Contains-searched xs x (Err k) found h sorted is =
           absurd (⊎_elim (λ l. omega (arith, below m l)) (λ l. omega (arith, above m l m_in)) (cases_lt m k)),
     )
 
--- the second and the third corner differ
-pub IsBare-apart : (ps : List Point) (a b c : ℕ) → IsBare ps a b c → b ≢ c
-IsBare-apart ps a b c h same =
-    let left = subst (λ (x : ℕ). pos 0 <ℤ orient (point_at ps a) (point_at ps b) (point_at ps x)) (sym same) h.turns_left in
-    omega (arith, ints, flat_last (point_at ps a) (point_at ps b))
-
 -- three corners by their numbers make an empty triangle
 IsEmptyOver-bare : (ps : List Point) (es : List Edge) (t : Tri) → t.b < length ps → IsBare ps t.a t.b t.c → HasEdge es t.a t.b → HasEdge es t.b t.c → HasEdge es t.a t.c → IsEmptyOver ps es t
 IsEmptyOver-bare ps es t b_in h ab bc ac =

@@ -6,9 +6,9 @@ use Rattle.std.proofs.lemmas.List.{get_or_default, get_or-map, get_or-take, get_
 use Rattle.std.specs.List.Sorted.{IsPartitionedBy}
 use Rattle.std.specs.List.{AllWithin}
 use Rattle.exact_predicates.specs.declared.edge.Edge.{Edge}
-use Rattle.exact_predicates.specs.Candidates.{EdgePrecedes, Joins, HasEdge}
+use Rattle.exact_predicates.specs.Candidates.{EdgePrecedes, IsEdgeBefore, Joins, HasEdge}
 use Rattle.exact_predicates.proofs.Equalities.{HasEdge-Contains, Contains-HasEdge}
-use Rattle.empty_triangles.specs.Enumeration.{IsEdgeBefore, is_edge_before, IsPlaceOf, IsRow}
+use Rattle.empty_triangles.specs.Enumeration.{is_edge_before, IsPlaceOf, IsRow}
 
 Decides-is_edge_before : (a b : ℕ) (e : Edge) → Decides (is_edge_before a b e) (IsEdgeBefore a b e)
 Decides-is_edge_before a b e = Decides-or _ _ (Decides-ltb e.a a) (Decides-and _ _ (Decides-eqb e.a a) (Decides-ltb e.b b))

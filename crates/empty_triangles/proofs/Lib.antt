@@ -5,6 +5,5 @@ pub mod Fans
 pub mod HalfTurns
 pub mod Heads
 pub mod Lists
-pub mod Ranges
 pub mod Seen
 pub mod Thirds

@@ -8,6 +8,7 @@ use Rattle.exact_predicates.specs.declared.point.Point.{Point}
 use Rattle.exact_predicates.specs.declared.tri.Tri.{Tri}
 use Rattle.exact_predicates.specs.Candidates.{TriPrecedes, HasEdge, IsEmptyOver, AreTrianglesOver, AreMoreThan}
 use Rattle.exact_predicates.proofs.Equalities.{Tri-equal}
+use Rattle.point_grid.proofs.Listings.{listing_append, listing_more, listing_none, listing_same}
 use Rattle.empty_triangles.specs.Enumeration.{IsRow, IsFan, AreThirds, AreTrianglesWith}
 use Rattle.empty_triangles.proofs.Emptiness.{IsEmptyOver-third, IsThird-empty}
 
@@ -18,18 +19,6 @@ pub record IsFromFan (a : ℕ) (row : List ℕ) (i : ℕ) (t : Tri) : Type 0 whe
   pub first : t.a ≡ a
   pub second : t.b ≡ slice_index row place
 
--- what holds of each two members of two lists, and of each one of the first with each one of the second
-AllPairs-append : {X : Type 0} (R : X → X → Type 0) (xs ys : List X) → AllPairs R xs → AllPairs R ys → ((i j : ℕ) (d : X) → i < length xs → j < length ys → R (get_or xs i d) (get_or ys j d)) → AllPairs R (xs ++ ys)
-AllPairs-append R xs ys h k across i j d l j_in =
-    ⊎_elim
-    (λ m. rw (get_or_append_left xs ys d i (omega arith), get_or_append_left xs ys d j m) (h i j d l m))
-    (λ m. let n = length-append xs ys in
-    ⊎_elim
-    (λ p. rw (get_or_append_left xs ys d i p, get_or-append_right xs ys (length xs) j d refl m) (across i (j - length xs) d p (omega arith)))
-    (λ p. rw (get_or-append_right xs ys (length xs) i d refl p, get_or-append_right xs ys (length xs) j d refl m) (k (i - length xs) (j - length xs) d (omega arith) (omega arith)))
-    (cases_lt i (length xs)))
-    (cases_lt j (length xs))
-
 -- the greater end of an edge is one of the points
 pub HasEdge-within : (es : List Edge) (n a b : ℕ) → All (λ e. e.b < n) es → a < b → HasEdge es a b → b < n
 HasEdge-within es n a b within up (m, e, m_in, at_m, j) =
@@ -38,33 +27,6 @@ HasEdge-within es n a b within up (m, e, m_in, at_m, j) =
     omega (arith, j.1)
 
 module _ (ps : List Point) (es : List Edge) where
-  -- another way to say which triangles are listed
-  with_same : (P Q : Tri → Type 0) (ts : List Tri) → ((t : Tri) → P t → Q t) → ((t : Tri) → IsEmptyOver ps es t → Q t → P t) → AreTrianglesWith ps es P ts → AreTrianglesWith ps es Q ts
-  with_same P Q ts there back h = record {
-    ascending = h.ascending;
-    are = All-weaker P Q there ts h.are;
-    each = h.each;
-    all = λ t q e. h.all t (back t e q) e;
-  }
-
-  -- two lists, of which the second comes after the first
-  with_append : (P Q : Tri → Type 0) (ts us : List Tri) → AreTrianglesWith ps es P ts → AreTrianglesWith ps es Q us → ((s t : Tri) → P s → Q t → TriPrecedes s t) → AreTrianglesWith ps es (λ t. P t ⊎ Q t) (ts ++ us)
-  with_append P Q ts us h k last = record {
-    ascending = AllPairs-append TriPrecedes ts us h.ascending k.ascending (λ i j d l m. last _ _ (h.are i d l) (k.are j d m));
-    are = All-append (λ t. P t ⊎ Q t) ts us (All-weaker P (λ t. P t ⊎ Q t) (λ t p. inl p) ts h.are) (All-weaker Q (λ t. P t ⊎ Q t) (λ t q. inr q) us k.are);
-    each = All-append (IsEmptyOver ps es) ts us h.each k.each;
-    all = λ t p e. ⊎_elim (λ l. Contains-append_left ts us t (h.all t l e)) (λ r. Contains-append_right ts us t (k.all t r e)) p;
-  }
-
-  -- at first
-  pub with_none : AreTrianglesWith ps es (λ t. t.a < 0) []
-  with_none = record {
-    ascending = λ i j d l k. absurd (omega arith);
-    are = λ k d l. absurd (omega arith);
-    each = λ k d l. absurd (omega arith);
-    all = λ t l e. absurd (omega arith);
-  }
-
   -- at last
   pub with_all : (a : ℕ) (ts : List Tri) → length ps ≤ a → AreTrianglesWith ps es (λ t. t.a < a) ts → AreTrianglesOver ps es ts
   with_all a ts past h = record {
@@ -73,27 +35,14 @@ module _ (ps : List Point) (es : List Edge) where
     all = λ t e. let a_in = e.empty.a_in in h.all t (omega arith) e;
   }
 
-  -- one more first corner
-  pub with_next_row : (a : ℕ) (ts us : List Tri) → AreTrianglesWith ps es (λ t. t.a < a) ts → AreTrianglesWith ps es (λ t. t.a ≡ a) us → AreTrianglesWith ps es (λ t. t.a < a + 1) (ts ++ us)
-  with_next_row a ts us h k =
-      with_same (λ t. (t.a < a) ⊎ (t.a ≡ a)) (λ t. t.a < a + 1) (ts ++ us)
-      (λ t. ⊎_elim (λ l. omega arith) (λ e. omega arith))
-      (λ t e l. ⊎_elim (λ m. inl m) (λ m. inr (omega arith)) (cases_lt t.a a))
-      (with_append (λ t. t.a < a) (λ t. t.a ≡ a) ts us h k (λ s t l e. inl (omega arith)))
-
   -- the fans of a first corner: at first, and one more
   pub with_no_fan : (a : ℕ) (row : List ℕ) → AreTrianglesWith ps es (IsFromFan a row 0) []
-  with_no_fan a row = record {
-    ascending = λ i j d l k. absurd (omega arith);
-    are = λ k d l. absurd (omega arith);
-    each = λ k d l. absurd (omega arith);
-    all = λ t p e. let l = p.place_in in absurd (omega arith);
-  }
+  with_no_fan a row = listing_none Tri TriPrecedes (IsEmptyOver ps es) (IsFromFan a row 0) (λ t p. let l = p.place_in in omega arith)
 
   pub with_next_fan : (a i : ℕ) (row : List ℕ) (ts us : List Tri) → IsRow es a row → i < length row → AreTrianglesWith ps es (IsFromFan a row i) ts → AreTrianglesWith ps es (λ t. (t.a ≡ a) × (t.b ≡ slice_index row i)) us
       → AreTrianglesWith ps es (IsFromFan a row (i + 1)) (ts ++ us)
   with_next_fan a i row ts us r i_in h k =
-      with_same (λ t. IsFromFan a row i t ⊎ ((t.a ≡ a) × (t.b ≡ slice_index row i))) (IsFromFan a row (i + 1)) (ts ++ us)
+      listing_same Tri TriPrecedes (IsEmptyOver ps es) (λ t. IsFromFan a row i t ⊎ ((t.a ≡ a) × (t.b ≡ slice_index row i))) (IsFromFan a row (i + 1)) (ts ++ us)
       (λ t. ⊎_elim
       (λ f. let l = f.place_in in record { place = f.place; place_in = omega arith; first = f.first; second = f.second })
       (λ s. record { place = i; place_in = omega arith; first = s.0; second = s.1 }))
@@ -101,14 +50,14 @@ module _ (ps : List Point) (es : List Edge) where
       (λ l. inl (record { place = f.place; place_in = l; first = f.first; second = f.second }))
       (λ l. let same : f.place ≡ i = omega arith in inr (f.first, f.second ∙ ap (slice_index row) same))
       (cases_lt f.place i))
-      (with_append (IsFromFan a row i) (λ t. (t.a ≡ a) × (t.b ≡ slice_index row i)) ts us h k
+      (listing_append Tri TriPrecedes (IsEmptyOver ps es) (IsFromFan a row i) (λ t. (t.a ≡ a) × (t.b ≡ slice_index row i)) ts us h k
       (λ s t f q. let first = f.first in let second = f.second in let q0 = q.0 in let q1 = q.1 in
       let m = r.ascending f.place i 0 f.place_in i_in in inr (inl (omega arith, omega arith))))
 
   -- all fans are done
   pub with_all_fans : (a i : ℕ) (row : List ℕ) (ts : List Tri) → IsRow es a row → length row ≤ i → i ≤ length row → AreTrianglesWith ps es (IsFromFan a row i) ts → AreTrianglesWith ps es (λ t. t.a ≡ a) ts
   with_all_fans a i row ts r past within =
-      with_same (IsFromFan a row i) (λ t. t.a ≡ a) ts (λ t f. f.first) from
+      listing_same Tri TriPrecedes (IsEmptyOver ps es) (IsFromFan a row i) (λ t. t.a ≡ a) ts (λ t f. f.first) from
     where
       from : (t : Tri) → IsEmptyOver ps es t → t.a ≡ a → IsFromFan a row i t
       from t e same =
@@ -143,15 +92,10 @@ module _ (ps : List Point) (es : List Edge) where
 
   -- what is listed tells how many there are
   pub more_than_listed : (P : Tri → Type 0) (limit : ℕ) (ts : List Tri) → limit < length ts → AreTrianglesWith ps es P ts → AreMoreThan (IsEmptyOver ps es) limit
-  more_than_listed P limit ts more h = record {
-    some = ts;
-    distinct = λ k l d m n same. apart _ _ (h.ascending k l d m n) same;
-    each = h.each;
-    more = more;
-  }
+  more_than_listed P limit ts more h = listing_more Tri TriPrecedes (IsEmptyOver ps es) P limit ts tris_apart more h
     where
-      apart : (s u : Tri) → TriPrecedes s u → s ≢ u
-      apart s u h same =
+      tris_apart : (s t : Tri) → TriPrecedes s t → s ≢ t
+      tris_apart s t h same =
           let a = ap (λ (x : Tri). x.a) same in
           let b = ap (λ (x : Tri). x.b) same in
           let c = ap (λ (x : Tri). x.c) same in

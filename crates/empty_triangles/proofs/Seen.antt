@@ -109,24 +109,6 @@ module _ (ps : List Point) (a : ℕ) (heads : List ℕ) (t : AreTurning ps a hea
         before s (omega arith) (subst (λ (y : ℕ). IsAhead ps heads j k y) (sym here) ah))
         m (omega arith) m_k)
 
--- none are seen before the first place
-pub AreSeen-first : (ps : List Point) (heads : List ℕ) → AreSeen ps heads 0 []
-AreSeen-first ps heads = record {
-  each = λ k d l. absurd (omega arith);
-  all = λ i h. let l = h.before in absurd (omega arith);
-  falling = λ x y d l m. absurd (omega arith);
-}
-
--- the place before is seen
-pub AreSeenTo-first : (ps : List Point) (heads : List ℕ) (j k : ℕ) → k + 1 ≡ j → AreSeenTo ps heads j k []
-AreSeenTo-first ps heads j k e = record {
-  here = record { before = omega arith; past = λ m up l. absurd (omega arith) };
-  each = λ x d l. absurd (omega arith);
-  all = λ i l h. let m = h.before in absurd (omega arith);
-  after = λ x d l. absurd (omega arith);
-  falling = λ x y d l m. absurd (omega arith);
-}
-
 -- k is found, and what comes next
 module _ (ps : List Point) (heads : List ℕ) (j k : ℕ) (found : List ℕ) (h : AreSeenTo ps heads j k found) where
   each_more : All (λ i. IsSeen ps heads i j) (found ++ k ∷ [])

@@ -1,19 +1,14 @@
 -- The empty triangles over a list of edges, as far as they are enumerated.
-use Rattle.std.specs.Prelude.{◌≡◌, ◌⊎◌, ℕ, ◌+◌, ◌<◌, ◌≤◌, ◌==◌, nat_lt, Bool, ◌&&◌, ◌||◌, List, Option, Some, None, length, slice_index, slice_index_or, All, AllPairs, Contains, pos, ◌<ℤ◌}
-use Rattle.std.specs.declared.alloc.Global.{Global}
-use Rattle.std.specs.declared.vec.Vec.{Vec}
+use Rattle.std.specs.Prelude.{◌≡◌, ◌⊎◌, ℕ, ◌+◌, ◌<◌, ◌≤◌, ◌==◌, nat_lt, Bool, ◌&&◌, ◌||◌, List, length, slice_index, slice_index_or, All, AllPairs, Contains, pos, ◌<ℤ◌}
 use Rattle.exact_predicates.specs.declared.edge.Edge.{Edge}
 use Rattle.exact_predicates.specs.declared.point.Point.{Point}
 use Rattle.exact_predicates.specs.declared.tri.Tri.{Tri}
 use Rattle.exact_predicates.specs.Plane.{orient, IsInClosedTriangle}
 use Rattle.exact_predicates.specs.PointSet.{point_at}
-use Rattle.exact_predicates.specs.Candidates.{EdgePrecedes, TriPrecedes, HasEdge, IsEmptyOver}
+use Rattle.exact_predicates.specs.Candidates.{EdgePrecedes, IsEdgeBefore, TriPrecedes, HasEdge, IsEmptyOver}
+use Rattle.point_grid.specs.Listing.{IsListing}
 
--- e comes before the edge with the ends a and b
-abbrev pub IsEdgeBefore : ℕ → ℕ → Edge → Type 0
-IsEdgeBefore a b e = (e.a < a) ⊎ ((e.a ≡ a) × (e.b < b))
-
--- the same, as a test
+-- whether e comes before the edge with the ends a and b
 abbrev pub is_edge_before : ℕ → ℕ → Edge → Bool
 is_edge_before a b e = nat_lt e.a a || ((e.a == a) && nat_lt e.b b)
 
@@ -30,11 +25,8 @@ pub record IsRow (es : List Edge) (a : ℕ) (row : List ℕ) : Type 0 where
   pub all : (b : ℕ) → a < b → HasEdge es a b → Contains row b
 
 -- those empty triangles over the edges es that are P, ascending
-pub record AreTrianglesWith (ps : List Point) (es : List Edge) (P : Tri → Type 0) (ts : List Tri) : Type 0 where
-  pub ascending : AllPairs TriPrecedes ts
-  pub are : All P ts
-  pub each : All (IsEmptyOver ps es) ts
-  pub all : (t : Tri) → P t → IsEmptyOver ps es t → Contains ts t
+abbrev pub AreTrianglesWith : List Point → List Edge → (Tri → Type 0) → List Tri → Type 0
+AreTrianglesWith ps es P ts = IsListing TriPrecedes (IsEmptyOver ps es) P ts
 
 -- a, b and c turn to the left, and no other point lies in their triangle or on its rim
 pub record IsBare (ps : List Point) (a b c : ℕ) : Type 0 where
@@ -54,20 +46,10 @@ pub record AreThirds (ps : List Point) (es : List Edge) (a b : ℕ) (cs : List �
   pub each : All (IsThird ps es a b) cs
   pub all : (c : ℕ) → IsThird ps es a b c → Contains cs c
 
--- seen from b, c is turned to the left of the point m; where there is none, it lies to the left of the line from a to b
-abbrev pub IsAhead : List Point → ℕ → ℕ → Option ℕ → ℕ → Type 0
-IsAhead ps a b None c = pos 0 <ℤ orient (point_at ps a) (point_at ps b) (point_at ps c)
-IsAhead ps a b (Some m) c = pos 0 <ℤ orient (point_at ps b) (point_at ps m) (point_at ps c)
-
 -- the triangles with the corners a and b and each of these third corners
 pub record IsFan (a b : ℕ) (cs : List ℕ) (ts : List Tri) : Type 0 where
   pub count : length ts ≡ length cs
   pub each : (k : ℕ) (d : Tri) → k < length ts → let t = slice_index_or ts k d in (t.a ≡ a) × (t.b ≡ b) × (t.c ≡ slice_index cs k)
-
--- the triangles with each first corner from a to before n, in a list each
-pub record AreRows (ps : List Point) (es : List Edge) (a n : ℕ) (rows : List (Vec Tri Global)) : Type 0 where
-  pub count : length rows + a ≡ n
-  pub each : (k : ℕ) (d : Vec Tri Global) → k < length rows → AreTrianglesWith ps es (λ t. t.a ≡ a + k) (slice_index_or rows k d).items
 
 -- what is asked where the triangles with the first corner a are listed
 pub record IsReady (ps held : List Point) (es : List Edge) (a : ℕ) : Type 0 where

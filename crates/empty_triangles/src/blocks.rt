@@ -1,7 +1,10 @@
 // Blocks of first corners, whose triangles are made in parallel.
 ghost use Rattle.std.specs.Prelude.{◌≡◌, ◌<◌, ◌≤◌, length, All, AllPairs, IfOk};
-ghost use Rattle.exact_predicates.specs.Candidates.{EdgePrecedes};
-ghost use Rattle.empty_triangles.specs.Enumeration.{AreTrianglesWith, AreRows, IsReady};
+ghost use Rattle.mwt_base.specs.Limits.{most_points};
+ghost use Rattle.exact_predicates.specs.declared.tri.Tri.{Tri};
+ghost use Rattle.exact_predicates.specs.Candidates.{EdgePrecedes, TriPrecedes, IsEmptyOver};
+ghost use Rattle.point_grid.specs.Listing.{AreRows};
+ghost use Rattle.empty_triangles.specs.Enumeration.{AreTrianglesWith, IsReady};
 
 use crate::edges::place_of;
 use crate::row::triangles_from;
@@ -12,29 +15,36 @@ use rayon::prelude::*;
 use std::alloc::Global;
 use std::thread::Threads;
 
-/// The end of a block of first corners that begins with `a`. It has as many as can have `most` triangles
-/// together, and one at least: what is made of a block is held at one time.
-pub(crate) fn block_end(points: &Points, edges: &[Edge], a: u32, most: usize) -> u32
+pub(crate) const MOST_TRIANGLES: usize = 4_000_000;
+
+// So many first corners make a block.
+const BLOCK: u32 = 2048;
+
+/// The end of the block of first corners that begins with `a`. It has fewer where these could have more
+/// triangles than are allowed, but one at least: what is made of a block is held at one time, and may be
+/// made in vain.
+pub(crate) fn block_end(points: &Points, edges: &[Edge], a: u32) -> u32
     requires ascending { AllPairs EdgePrecedes edges.now }
     requires a_in { a < length points.now.points }
     ensures more { a < result }
     ensures within { result ≤ length points.now.points }
 {
-    let count = points.len();
-    let mut sum = most_triangles(edges, a);
-    for b in a + 1..count {
-        sum = sum.saturating_add(most_triangles(edges, b));
-        if sum > most {
+    let end = points.len().min(a + BLOCK);
+    let mut sum = most_from(edges, a);
+    for b in a + 1..end {
+        sum = sum.saturating_add(most_from(edges, b));
+        if sum > MOST_TRIANGLES {
             return b;
         }
     }
-    count
+    end
 }
 
-// No fewer than the triangles with the first corner `a`: each has two of its edges, and a third side of its own.
-fn most_triangles(edges: &[Edge], a: u32) -> usize
+// At least the number of triangles with the first corner `a`: each has two of its edges, and a third side of
+// its own.
+fn most_from(edges: &[Edge], a: u32) -> usize
     requires ascending { AllPairs EdgePrecedes edges.now }
-    requires a_in { a < 10000 }
+    requires a_in { a < most_points }
     ensures { result ≤ length edges.now }
 {
     let count = place_of(edges, a + 1, 0) - place_of(edges, a, 0);
@@ -56,7 +66,7 @@ pub(crate) fn rows_between<R: Threads + Sync>(
     requires within { All (λ e. e.b < length points.now.points) edges.now }
     requires a_to { a ≤ to }
     requires to_in { to ≤ length points.now.points }
-    ensures { IfOk result (λ rows. AreRows points.now.points edges.now a to rows.items) }
+    ensures { IfOk result (λ rows. AreRows TriPrecedes (IsEmptyOver points.now.points edges.now) (λ (t : Tri). t.a) a to rows.items) }
 {
     (a..to)
         .into_par_iter()

@@ -1,5 +1,6 @@
 // Reading an ascending list of edges.
 ghost use Rattle.std.specs.Prelude.{◌≡◌, ◌≢◌, ◌<◌, ◌≤◌, ◌↔◌, ℕ, IsTrue, length, slice_index, AllPairs, Contains, IfOk};
+ghost use Rattle.mwt_base.specs.Limits.{most_points};
 ghost use Rattle.exact_predicates.specs.Candidates.{EdgePrecedes, HasEdge};
 ghost use Rattle.empty_triangles.specs.Enumeration.{is_edge_before, IsPlaceOf, IsRow};
 
@@ -10,7 +11,7 @@ use std::alloc::Global;
 /// The greater ends of the edges whose lesser end is `a`.
 pub(crate) fn row(alloc: Global, edges: &[Edge], a: u32) -> Result<Vec<u32>, NoMemory>
     requires ascending { AllPairs EdgePrecedes edges.now }
-    requires a_in { a < 10000 }
+    requires a_in { a < most_points }
     ensures { IfOk result (λ row. IsRow edges.now a row.items) }
 {
     let from = place_of(edges, a, 0);

@@ -1,21 +1,21 @@
 // The empty triangles, by their first corners.
 ghost use Rattle.std.specs.Prelude.{◌≡◌, ◌<◌, ◌≤◌, ◌++◌, length, vec_len, All, AllPairs, IfOk, OnOk, IfErr};
+ghost use Rattle.mwt_base.specs.Limits.{most_triangles};
 ghost use Rattle.exact_predicates.specs.Candidates.{EdgePrecedes, IsEmptyOver, AreTrianglesOver, AreMoreThan};
 
-use crate::blocks::{block_end, rows_between};
+use crate::blocks::{MOST_TRIANGLES, block_end, rows_between};
 use crate::stop::TriStop;
 use exact_predicates::{Edges, Points, Tri, Tris};
 use point_grid::Grid;
 use std::alloc::Global;
 use std::thread::Threads;
 
-const MOST: usize = 4_000_000;
-
 /// The empty triangles whose three sides are among the edges, in ascending order. `Dense` says that
 /// there are more than 4,000,000; those beyond are not enumerated then.
 ///
 /// Threads share the first corners. For each it takes the time of one query, of a sort of the points
-/// near it and its neighbours, and for each neighbour of one pass over them.
+/// round it and its neighbours, and of a bisection for each pair of these points that see one another past
+/// all between.
 pub fn triangles<R: Threads + Sync>(
     rt: &R,
     alloc: Global,
@@ -27,14 +27,14 @@ pub fn triangles<R: Threads + Sync>(
     requires ascending { AllPairs EdgePrecedes edges.now }
     requires within { All (λ e. e.b < length points.now.points) edges.now }
     ensures listed { IfOk result (λ tris. AreTrianglesOver points.now.points edges.now tris) }
-    ensures few { IfOk result (λ tris. length tris ≤ 4000000) }
+    ensures few { IfOk result (λ tris. length tris ≤ most_triangles) }
     ensures dense { IfErr result (λ stop. stop ≡ TriStop.Dense →
-        AreMoreThan (IsEmptyOver points.now.points edges.now) 4000000) }
+        AreMoreThan (IsEmptyOver points.now.points edges.now) most_triangles) }
 {
     let mut tris = Vec::new(alloc);
     let mut a = 0;
     while a < points.len() {
-        let to = block_end(points, edges.as_slice(), a, MOST);
+        let to = block_end(points, edges.as_slice(), a);
         let rows = rows_between(rt, alloc, points, grid, edges.as_slice(), a, to)?;
         for i in 0..rows.len() {
             append(&mut tris, &rows[i])?;
@@ -46,12 +46,12 @@ pub fn triangles<R: Threads + Sync>(
 
 // Those of one more first corner, if there is room.
 fn append(tris: &mut Vec<Tri>, row: &[Tri]) -> Result<(), TriStop>
-    requires few { vec_len tris.old ≤ 4000000 }
+    requires few { vec_len tris.old ≤ most_triangles }
     ensures appended { OnOk result (tris.new.items ≡ tris.old.items ++ row.now) }
-    ensures few { OnOk result (vec_len tris.new ≤ 4000000) }
-    ensures dense { IfErr result (λ stop. stop ≡ TriStop.Dense → 4000000 < length (tris.old.items ++ row.now)) }
+    ensures few { OnOk result (vec_len tris.new ≤ most_triangles) }
+    ensures dense { IfErr result (λ stop. stop ≡ TriStop.Dense → most_triangles < length (tris.old.items ++ row.now)) }
 {
-    if row.len() > MOST - tris.len() {
+    if row.len() > MOST_TRIANGLES - tris.len() {
         return Err(TriStop::Dense);
     }
     tris.extend_from_slice(row)?;

@@ -1,5 +1,6 @@
 // Where the triangles of a corner and its neighbours lie.
 ghost use Rattle.std.specs.Prelude.{◌≡◌, ◌+◌, ◌<◌, ◌≤◌, ◌≤ℤ◌, length, All};
+ghost use Rattle.mwt_base.specs.Limits.{most_points};
 ghost use Rattle.exact_predicates.specs.PointSet.{IsPointSet, point_at};
 ghost use Rattle.empty_triangles.specs.Corners.{IsAround, Widens};
 
@@ -29,7 +30,7 @@ pub(crate) fn window_around(points: &Points, a: u32, numbers: &[u32]) -> Window
 
 // A window that also has the point `p` with the number `b`.
 fn widened(window: &Window, b: u32, p: &Point) -> Window
-    requires { b < 10000 }
+    requires { b < most_points }
     ensures { Widens window.now b p.now result }
 {
     Window {
