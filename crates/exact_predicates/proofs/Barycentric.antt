@@ -70,14 +70,6 @@ from_differences a b c r m n k l e =
     let sum = weighed_differences (orient b c r) (orient c a r) (orient a b r) m n k l in
     omega (arith, ints)
 
--- the barycentric identity for the coordinates
-pub barycentric_x : (a b c r : Point) → orient a b c *ℤ r.x ≡ weighed (orient b c r) (orient c a r) (orient a b r) a.x b.x c.x
-barycentric_x a b c r = from_differences a b c r a.x b.x c.x r.x (corners_x a b c r)
-
--- and for y
-pub barycentric_y : (a b c r : Point) → orient a b c *ℤ r.y ≡ weighed (orient b c r) (orient c a r) (orient a b r) a.y b.y c.y
-barycentric_y a b c r = from_differences a b c r a.y b.y c.y r.y (corners_y a b c r)
-
 -- the turn from one vector to three others, weighed
 weighed_cross : (u v wa wb wc ax ay bx by cx cy : ℤ) → weighed wa wb wc (cross u v ax ay) (cross u v bx by) (cross u v cx cy) ≡ cross u v (weighed wa wb wc ax bx cx) (weighed wa wb wc ay by cy)
 weighed_cross u v wa wb wc ax ay bx by cx cy =

@@ -7,7 +7,7 @@ use Rattle.exact_predicates.specs.Plane.{orient, Precedes}
 use Rattle.exact_predicates.specs.PointSet.{point_at, IsPointSet}
 use Rattle.exact_predicates.specs.Hull.{IsHullPair, IsHull}
 use Rattle.exact_predicates.proofs.Ring.{var, less, times, ring}
-use Rattle.exact_predicates.proofs.Orientation.{coordinates, orient_term, orient_turned, orient_swapped}
+use Rattle.exact_predicates.proofs.Orientation.{coordinates, orient_term, orient_return, orient_turned, orient_swapped}
 use Rattle.exact_predicates.proofs.HalfPlane.{cross, IsForward, cross_transitive, cross_swap, forward_from, turn_transitive}
 use Rattle.exact_predicates.proofs.Line.{orient-on_line}
 use Rattle.exact_predicates.proofs.Rings.{pair_of_place}
@@ -65,10 +65,6 @@ after_straight u v w r vu vw h k e vr =
     let back = turn_transitive v r u w vr vu vw (omega (arith, ints)) (omega (arith, ints)) in
     omega (arith, ints, orient_swapped w v r, orient_turned w v r)
 
--- two corners of one turn
-orient_ends : (v w : Point) → orient v w v ≡ pos 0
-orient_ends v w = omega (arith, ints, orient_turned v w v, orient_swapped v w v)
-
 -- no number of a hull but 0 is less than both its neighbours
 pub no_valley : (ps : List Point) (hull : List ℕ) (u v w : ℕ) → IsPointSet ps → IsHull ps hull → IsHullPair hull u v → IsHullPair hull v w
     → u < length ps → w < length ps → 0 < v → v < u → v < w → ⊥
@@ -84,7 +80,7 @@ no_valley ps hull u v w s h uv vw u_in w_in some v_u v_w =
     (λ l. before_straight (P u) (P v) (P w) (P r) (before v u v_u u_in) (before v w v_w w_in) left right e (before r v l (omega arith)))
     (λ m. ⊎_elim
     (λ l. after_straight (P u) (P v) (P w) (P r) (before v u v_u u_in) (before v w v_w w_in) left right e (before v r l r_in))
-    (λ n. let same : v ≡ r = omega arith in subst (λ x. orient (P v) (P w) (P x) ≡ pos 0) same (orient_ends (P v) (P w)))
+    (λ n. let same : v ≡ r = omega arith in subst (λ x. orient (P v) (P w) (P x) ≡ pos 0) same (orient_return (P v) (P w)))
     (cases_lt v r))
     (cases_lt r v) in
     let t = s.not_flat in

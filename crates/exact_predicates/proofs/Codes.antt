@@ -11,7 +11,7 @@ use Rattle.exact_predicates.proofs.ListFacts.{Decides-list_all}
 use Rattle.exact_predicates.proofs.InRange.{Decides-is_in_range}
 use Rattle.exact_predicates.proofs.DistinctIds.{Decides-has_distinct_ids, distinct_ids-IsPermutation}
 use Rattle.exact_predicates.proofs.Flatness.{is_flat-HasTurn, HasTurn-from_is_flat, is_flat-IsPermutation}
-use Rattle.exact_predicates.proofs.Firsts.{HasDistinctPlaces, firsts-distinct, HasDistinctPlaces-from_length, length-firsts-le, All-firsts, AllPairs-firsts}
+use Rattle.exact_predicates.proofs.Firsts.{HasDistinctPlaces, firsts-distinct, length-firsts-le, All-firsts, AllPairs-firsts}
 
 -- the code, by the answers of its tests
 abbrev code_of : Bool → Bool → Bool → Bool → Bool → Option ℕ
@@ -58,36 +58,6 @@ points_code-distinct list ranged ids places enough few turn =
       enough = rw whole enough;
       not_flat = rw whole (is_flat-HasTurn list turn);
     })
-
--- what is known of a list of which points were made and none went
-pub record IsPlain (list : List Point) : Type 0 where
-  pub in_range : All IsInRange list
-  pub distinct_ids : AllPairs (λ p q. p.id ≢ q.id) list
-  pub distinct_places : HasDistinctPlaces list
-  pub enough : 3 ≤ length list
-  pub not_more : length list ≤ 10000
-  pub not_flat : HasTurn list
-
--- such a list has no code
-pub points_code-plain : (list : List Point) → IsPlain list → points_code list ≡ None
-points_code-plain list h = points_code-distinct list h.in_range h.distinct_ids h.distinct_places h.enough h.not_more h.not_flat
-
--- where no point went, the list was so
-pub IsPlain-from_made : (list : List Point) (set : PointSet) → IsMadeFrom list set → set.merged ≡ 0 → IsPlain list
-IsPlain-from_made list set h none =
-    let lawful = IsLawful-from_code list h.lawful in
-    let all = HasDistinctPlaces-from_length list (omega (arith, length_permutation (firsts list) set.points h.stay, h.merged, none)) in
-    let whole = firsts-distinct list all in
-    let enough = lawful.enough in
-    let few = lawful.not_more in
-    record {
-      in_range = (Decides-list_all is_in_range IsInRange Decides-is_in_range list).0 lawful.in_range;
-      distinct_ids = (Decides-has_distinct_ids list).0 lawful.distinct_ids;
-      distinct_places = all;
-      enough = rw whole at enough;
-      not_more = rw whole at few;
-      not_flat = HasTurn-from_is_flat list (ap is_flat (sym whole) ∙ lawful.not_flat);
-    }
 
 -- the rules, by the tests of a list, in the order in which they are told
 pub points_code-out_of_range : (list : List Point) → list_all is_in_range list ≡ false → points_code list ≡ Some 4

@@ -7,7 +7,7 @@ use Rattle.std.proofs.lemmas.List.Elements.{All-weaker, All-head, All-tail, All-
 use Rattle.std.proofs.lemmas.List.Kept.{AllPairs-cons, AllPairs-filter}
 use Rattle.exact_predicates.specs.declared.point.Point.{Point}
 use Rattle.exact_predicates.specs.Merging.{is_same_place, firsts}
-use Rattle.exact_predicates.proofs.ListFacts.{AllPairs-head, AllPairs-tail, filter-all, filter-filter, filter-full, length-filter-le}
+use Rattle.exact_predicates.proofs.ListFacts.{AllPairs-head, AllPairs-tail, filter-all, filter-filter, length-filter-le}
 
 -- no two points have the same coordinates
 abbrev pub HasDistinctPlaces : List Point → Type 0
@@ -25,18 +25,6 @@ firsts-distinct (p ∷ ps) h =
 pub length-firsts-le : (ps : List Point) → length (firsts ps) ≤ length ps
 length-firsts-le [] = omega arith
 length-firsts-le (p ∷ ps) = omega (arith, length-filter-le (λ q. not (is_same_place p q)) (firsts ps), length-firsts-le ps)
-
--- where none goes, no coordinates are equal
-pub HasDistinctPlaces-from_length : (ps : List Point) → length (firsts ps) ≡ length ps → HasDistinctPlaces ps
-HasDistinctPlaces-from_length [] h = λ i j d l k. absurd (omega arith)
-HasDistinctPlaces-from_length (p ∷ ps) h =
-    let R : Point → Point → Type 0 = λ r q. is_same_place r q ≡ false in
-    let test : Point → Bool = λ q. not (is_same_place p q) in
-    let few = length-filter-le test (firsts ps) in
-    let rest = HasDistinctPlaces-from_length ps (omega (arith, few, length-firsts-le ps)) in
-    let whole = firsts-distinct ps rest in
-    let full : length (filter test ps) ≡ length ps = ap (λ qs. length (filter test qs)) (sym whole) ∙ omega (arith, h) in
-    AllPairs-cons R p ps (All-weaker (λ q. test q ≡ true) (R p) (λ q e. not-true _ e) ps (filter-full test ps full)) rest
 
 -- what stays of two lists: of the second, the points whose coordinates the first has not
 pub firsts-append : (ps qs : List Point) → firsts (ps ++ qs) ≡ firsts ps ++ filter (λ q. not (list_any (λ p. is_same_place p q) ps)) (firsts qs)

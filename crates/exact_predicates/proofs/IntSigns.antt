@@ -3,11 +3,6 @@ use Rattle.std.proofs.Common.{◌≡◌, ℕ, zero, suc, ℤ, pos, negsuc, ◌*�
 use Rattle.std.proofs.lemmas.Int.{ints}
 use Rattle.exact_predicates.proofs.Products.{product_parts}
 
--- a number that is not negative is a natural one
-pub natural : (a : ℤ) → pos 0 ≤ℤ a → (k : ℕ) × (a ≡ pos k)
-natural (pos k) h = (k, refl)
-natural (negsuc k) h = absurd (omega (arith, ints))
-
 pub square-nonneg : (a : ℤ) → pos 0 ≤ℤ (a *ℤ a)
 square-nonneg (pos a) = omega (arith, ints)
 square-nonneg (negsuc a) = omega (arith, ints)

@@ -31,15 +31,6 @@ length-filter-le p (x ∷ xs) = at (p x) (length-filter-le p xs)
     at true h = omega arith
     at false h = omega arith
 
--- a filter that keeps as many as there are keeps every element
-pub filter-full : {X : Type 0} (p : X → Bool) (xs : List X) → length (filter p xs) ≡ length xs → All (λ x. p x ≡ true) xs
-filter-full p [] h = λ k d l. absurd (omega arith)
-filter-full p (x ∷ xs) h = at (p x) refl h (filter-full p xs)
-  where
-    at : (b : Bool) → p x ≡ b → length (cond b (x ∷ filter p xs) (filter p xs)) ≡ suc (length xs) → (length (filter p xs) ≡ length xs → All (λ y. p y ≡ true) xs) → All (λ y. p y ≡ true) (x ∷ xs)
-    at true e f rest = All-cons (λ y. p y ≡ true) x xs e (rest (omega (arith, f)))
-    at false e f rest = absurd (omega (arith, f, length-filter-le p xs))
-
 -- a test of every element, where the test decides P
 pub Decides-list_all : {X : Type 0} (p : X → Bool) (P : X → Type 0) → ((x : X) → Decides (p x) (P x)) → (xs : List X) → Decides (list_all p xs) (All P xs)
 Decides-list_all p P each xs = Decides-by_and p P (list_all p) each refl (λ _ _. refl) xs

@@ -14,7 +14,7 @@ use Rattle.std.proofs.lemmas.Int.{ints}
 use Rattle.std.proofs.lemmas.List.Sorted.{ranks_by, sorted_far}
 use Rattle.std.proofs.lemmas.List.{take_more, take_all, length-append}
 use Rattle.exact_predicates.specs.declared.point.Point.{Point}
-use Rattle.exact_predicates.specs.declared.staying.Place.{Place}
+use Rattle.exact_predicates.specs.declared.staying.Coordinates.{Coordinates}
 use Rattle.exact_predicates.specs.Plane.{Precedes}
 use Rattle.exact_predicates.specs.PointSet.{point_at}
 use Rattle.exact_predicates.specs.Merging.{is_same_place, firsts}
@@ -23,11 +23,11 @@ use Rattle.exact_predicates.proofs.ListFacts.{AllPairs-IsPermutation, list_any-p
 use Rattle.exact_predicates.proofs.Order.{Precedes-cases}
 
 -- the order of places: by x and then by y
-abbrev pub place_cmp : Place → Place → Ordering
+abbrev pub place_cmp : Coordinates → Coordinates → Ordering
 place_cmp p q = ordering_then (int_cmp p.x q.x) (int_cmp p.y q.y)
 
 -- where a point stands
-abbrev pub place_of : Point → Place
+abbrev pub place_of : Point → Coordinates
 place_of p = record { x = p.x; y = p.y }
 
 -- two orders in turn find equal what both find equal
@@ -80,15 +80,15 @@ HasDistinctPlaces-IsPermutation ps qs moved h = AllPairs-IsPermutation is_same_p
     flips p q = cc (int_eq_equiv.symm p.x q.x, int_eq_equiv.symm p.y q.y)
 
 -- what stays of the points ps, and the set of their places, where one more than most may stay
-pub record IsMerged (ps : List Point) (most : ℕ) (taken : BTreeSet Place) (kept : List Point) : Type 0 where
+pub record IsMerged (ps : List Point) (most : ℕ) (taken : BTreeSet Coordinates) (kept : List Point) : Type 0 where
   pub stay : kept ≡ firsts ps
   pub known : (q : Point) → contains place_cmp taken (place_of q) ≡ list_any (λ r. is_same_place r q) ps
   pub few : length kept ≤ most + 1
 
 -- the next point of a list, whose place goes into the set
-pub IsMerged-more : (ps : List Point) (i most : ℕ) (old new : BTreeSet Place) (kept : List Point) (added : Bool) → i < length ps → IsMerged (take i ps) most old kept → length kept ≤ most
+pub IsMerged-more : (ps : List Point) (i most : ℕ) (old new : BTreeSet Coordinates) (kept : List Point) (added : Bool) → i < length ps → IsMerged (take i ps) most old kept → length kept ≤ most
     → added ≡ not (contains place_cmp old (place_of (point_at ps i)))
-    → ((q : Place) → contains place_cmp new q ≡ cond (is_at (place_cmp (place_of (point_at ps i))) q) true (contains place_cmp old q))
+    → ((q : Coordinates) → contains place_cmp new q ≡ cond (is_at (place_cmp (place_of (point_at ps i))) q) true (contains place_cmp old q))
     → IsMerged (take (i + 1) ps) most new (kept ++ cond added (point_at ps i ∷ []) [])
 IsMerged-more ps i most old new kept added l h few is_added has =
     let p = point_at ps i in
@@ -105,13 +105,13 @@ IsMerged-more ps i most old new kept added l h few is_added has =
     one false p = omega arith
 
 -- after the last point
-pub IsMerged-all : (ps : List Point) (i most : ℕ) (taken : BTreeSet Place) (kept : List Point) → length ps ≤ i → IsMerged (take i ps) most taken kept → kept ≡ take (most + 1) (firsts ps)
+pub IsMerged-all : (ps : List Point) (i most : ℕ) (taken : BTreeSet Coordinates) (kept : List Point) → length ps ≤ i → IsMerged (take i ps) most taken kept → kept ≡ take (most + 1) (firsts ps)
 IsMerged-all ps i most taken kept past h =
     let all : kept ≡ firsts ps = h.stay ∙ ap firsts (take_all i ps past) in
     all ∙ sym (take_all (most + 1) (firsts ps) (omega (arith, h.few, ap length all)))
 
 -- once too many stay
-pub IsMerged-full : (ps : List Point) (i most : ℕ) (taken : BTreeSet Place) (kept : List Point) → most < length kept → IsMerged (take i ps) most taken kept → kept ≡ take (most + 1) (firsts ps)
+pub IsMerged-full : (ps : List Point) (i most : ℕ) (taken : BTreeSet Coordinates) (kept : List Point) → most < length kept → IsMerged (take i ps) most taken kept → kept ≡ take (most + 1) (firsts ps)
 IsMerged-full ps i most taken kept many h =
     let full : length (firsts (take i ps)) ≡ most + 1 = omega (arith, h.few, ap length h.stay) in
     h.stay ∙ (sym (firsts-take i ps) ∙ ap (λ n. take n (firsts ps)) full)

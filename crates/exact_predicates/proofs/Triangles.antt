@@ -47,18 +47,6 @@ rightwards y r =
 leftwards : (y : ℤ) (r : Point) → orient (at (pos 1) y) (at (pos 0) y) r ≡ y -ℤ r.y
 leftwards y r = omega (arith, ints, rightwards y r, orient_swapped (at (pos 0) y) (at (pos 1) y) r)
 
--- a point of the triangle lies within each box that holds the corners: its x is at most x
-pub triangle_x_at_most : (a b c r : Point) (x : ℤ) → pos 0 <ℤ orient a b c → IsInClosedTriangle a b c r → a.x ≤ℤ x → b.x ≤ℤ x → c.x ≤ℤ x → r.x ≤ℤ x
-triangle_x_at_most a b c r x area i ha hb hc =
-    let h = triangle_left_of a b c r (at x (pos 0)) (at x (pos 1)) area i (rw (upwards x a) (omega (arith, ints))) (rw (upwards x b) (omega (arith, ints))) (rw (upwards x c) (omega (arith, ints))) in
-    omega (arith, ints, upwards x r)
-
--- at least x
-pub triangle_x_at_least : (a b c r : Point) (x : ℤ) → pos 0 <ℤ orient a b c → IsInClosedTriangle a b c r → x ≤ℤ a.x → x ≤ℤ b.x → x ≤ℤ c.x → x ≤ℤ r.x
-triangle_x_at_least a b c r x area i ha hb hc =
-    let h = triangle_left_of a b c r (at x (pos 1)) (at x (pos 0)) area i (rw (downwards x a) (omega (arith, ints))) (rw (downwards x b) (omega (arith, ints))) (rw (downwards x c) (omega (arith, ints))) in
-    omega (arith, ints, downwards x r)
-
 -- at least y
 pub triangle_y_at_least : (a b c r : Point) (y : ℤ) → pos 0 <ℤ orient a b c → IsInClosedTriangle a b c r → y ≤ℤ a.y → y ≤ℤ b.y → y ≤ℤ c.y → y ≤ℤ r.y
 triangle_y_at_least a b c r y area i ha hb hc =
@@ -94,28 +82,3 @@ later_outside a b c r ar br cr area i =
 pub earlier_outside : (a b c r : Point) → Precedes r a → Precedes r b → Precedes r c → pos 0 <ℤ orient a b c → ¬ IsInClosedTriangle a b c r
 earlier_outside a b c r ra rb rc area i =
     not_transitive a b c r area i (turn_transitive r a b c ra rb rc) (turn_transitive r b c a rb rc ra) (turn_transitive r c a b rc ra rb)
-
--- the order of points looks at their coordinates alone
-Precedes-same_first : (p q r : Point) → p.x ≡ q.x → p.y ≡ q.y → Precedes p r → Precedes q r
-Precedes-same_first p q r ex ey h = ⊎_elim (λ l. inl (omega (arith, ints))) (λ e. let e0 = e.0 in let e1 = e.1 in inr (omega (arith, ints), omega (arith, ints))) h
-
-Precedes-same_last : (p q r : Point) → q.x ≡ r.x → q.y ≡ r.y → Precedes p q → Precedes p r
-Precedes-same_last p q r ex ey h = ⊎_elim (λ l. inl (omega (arith, ints))) (λ e. let e0 = e.0 in let e1 = e.1 in inr (omega (arith, ints), omega (arith, ints))) h
-
--- a point of the triangle is at most the greatest corner: it does not come after a point that no corner comes after
-pub triangle_not_after : (a b c g r : Point) → pos 0 <ℤ orient a b c → IsInClosedTriangle a b c r → ¬ Precedes g a → ¬ Precedes g b → ¬ Precedes g c → ¬ Precedes g r
-triangle_not_after a b c g r area i ga gb gc gr =
-    later_outside a b c r (before a ga) (before b gb) (before c gc) area i
-  where
-    before : (p : Point) → ¬ Precedes g p → Precedes p r
-    before p gp =
-        ⊎_elim (λ pg. Precedes-trans p g r pg gr) (λ o. ⊎_elim (λ e. Precedes-same_first g p r (sym e.0) (sym e.1) gr) (λ l. absurd (gp l)) o) (Precedes-cases p g)
-
--- and at least the least corner: it does not come before a point that no corner comes before
-pub triangle_not_before : (a b c l r : Point) → pos 0 <ℤ orient a b c → IsInClosedTriangle a b c r → ¬ Precedes a l → ¬ Precedes b l → ¬ Precedes c l → ¬ Precedes r l
-triangle_not_before a b c l r area i al bl cl rl =
-    earlier_outside a b c r (after a al) (after b bl) (after c cl) area i
-  where
-    after : (p : Point) → ¬ Precedes p l → Precedes r p
-    after p pl =
-        ⊎_elim (λ h. absurd (pl h)) (λ o. ⊎_elim (λ e. Precedes-same_last r l p (sym e.0) (sym e.1) rl) (λ lp. Precedes-trans r l p rl lp) o) (Precedes-cases p l)

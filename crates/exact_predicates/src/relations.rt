@@ -78,7 +78,7 @@ pub fn in_left_diamond(p: &Point, q: &Point, r: &Point) -> bool
     ensures { IsTrue result ↔ IsInLeftDiamond p.now q.now r.now }
 {
     let turn = orient(p, q, r);
-    turn > 0 && is_flat(turn, dot(p, q, r)) && is_flat(turn, dot(q, p, r))
+    turn > 0 && is_below_base_angle(turn, dot(p, q, r)) && is_below_base_angle(turn, dot(q, p, r))
 }
 
 /// Whether `r` blocks the left side of `p` to `q`: whether it lies in the left diamond or strictly
@@ -90,12 +90,12 @@ pub fn blocks(p: &Point, q: &Point, r: &Point) -> bool
     ensures { IsTrue result ↔ Blocks p.now q.now r.now }
 {
     let sine = orient(p, q, r);
-    sine >= 0 && is_flat(sine, dot(p, q, r)) && is_flat(sine, dot(q, p, r))
+    sine >= 0 && is_below_base_angle(sine, dot(p, q, r)) && is_below_base_angle(sine, dot(q, p, r))
 }
 
 // Whether an angle below a right one, of which these are the sine and the cosine to one scale, has a
 // tangent below 4/5.
-fn is_flat(sine: i128, cosine: i128) -> bool
+fn is_below_base_angle(sine: i128, cosine: i128) -> bool
     requires sine_in { unsigned_abs sine ≤ 8 * 10 ^ 18 }
     requires cosine_in { unsigned_abs cosine ≤ 8 * 10 ^ 18 }
     ensures { IsTrue result ↔ ((pos 5 *ℤ sine) <ℤ (pos 4 *ℤ cosine)) }

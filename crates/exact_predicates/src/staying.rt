@@ -10,16 +10,16 @@ use std::collections::BTreeSet;
 
 // The coordinates of a point. Places are ordered by `x` and then by `y`.
 #[derive(Clone, Copy, PartialEq, Eq, PartialOrd, Ord)]
-pub struct Place {
+pub struct Coordinates {
     x: i64,
     y: i64,
 }
 
-impl Place {
-    pub fn of(p: &Point) -> Place
+impl Coordinates {
+    pub fn of(p: &Point) -> Coordinates
         ensures { result ≡ record { x = p.now.x; y = p.now.y } }
     {
-        Place { x: p.x, y: p.y }
+        Coordinates { x: p.x, y: p.y }
     }
 }
 
@@ -58,7 +58,7 @@ pub fn first_at_each_place(
         if kept.len() > most {
             break;
         }
-        if taken.insert(Place::of(p))? {
+        if taken.insert(Coordinates::of(p))? {
             kept.push(*p)?;
         }
     }
@@ -71,7 +71,7 @@ pub fn sort_by_place(points: &mut Vec<Point>) -> Result<(), AllocError>
     ensures permutation { IsPermutation points.old.items points.new.items }
     ensures ascending { OnOk result (AllPairs Precedes points.new.items) }
 {
-    points.sort_by_key(Place::of)?;
+    points.sort_by_key(Coordinates::of)?;
     Ok(())
 }
 

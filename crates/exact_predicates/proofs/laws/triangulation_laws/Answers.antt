@@ -1,4 +1,5 @@
--- One hull, and how many edges.
+-- One hull, how many edges, one list of triangles.
+use Rattle.exact_predicates.proofs.Ascending.{AreTrianglesOver-only}
 use Rattle.exact_predicates.proofs.OneHull.{IsHull-only}
 use Rattle.exact_predicates.proofs.SidesCounted.{length-edges}
 use Rattle.exact_predicates.proofs.laws.triangulation_laws.Goals as goal
@@ -8,3 +9,6 @@ returns-clause-one_hull c = IsHull-only
 
 pub returns-clause-edges : goal.returns-clause-edges
 returns-clause-edges c = length-edges
+
+pub returns-clause-one_triangle_list : goal.returns-clause-one_triangle_list
+returns-clause-one_triangle_list c = AreTrianglesOver-only

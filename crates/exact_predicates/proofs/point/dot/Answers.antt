@@ -1,3 +1,4 @@
+-- The inner product fits.
 use Rattle.std.proofs.Common.{arith, ◌≡◌, ◌*◌, ◌^◌, ◌≤◌, ◌*ℤ◌, ◌+ℤ◌, ◌-ℤ◌, ℤ, FitsSigned, to_z, of_z, unsigned_abs, ap, ◌∙◌}
 use Rattle.std.proofs.lemmas.Int.{ints}
 use Rattle.exact_predicates.specs.Plane.{dot}

@@ -1,3 +1,4 @@
+-- Each refusal has its rule, and what stays keeps all of them.
 use Rattle.std.proofs.Common.{◌≡◌, ℕ, List, length, Some, ap, sym, ◌∙◌, arith}
 use Rattle.std.proofs.lemmas.List.Sorted.{length_permutation, All-permutation}
 use Rattle.exact_predicates.specs.declared.point.Point.{Point}

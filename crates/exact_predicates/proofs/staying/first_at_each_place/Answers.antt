@@ -1,3 +1,4 @@
+-- One point more is kept exactly where its coordinates are new.
 use Rattle.std.proofs.Common.{◌≤◌, Bool, true, false, ◌≡◌, length, arith, sym, ◌∙◌, ◌+◌, ◌++◌, take, cond, [], ◌∷◌}
 use Rattle.std.proofs.lemmas.List.{append-nil}
 use Rattle.exact_predicates.specs.PointSet.{point_at}

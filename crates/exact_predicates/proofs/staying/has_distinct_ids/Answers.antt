@@ -1,3 +1,4 @@
+-- One id more is new exactly where no point before has it.
 use Rattle.std.proofs.Common.{sym, ◌∙◌}
 use Rattle.exact_predicates.proofs.DistinctIds.{AreIds-more, has_distinct_ids-repeated}
 use Rattle.exact_predicates.proofs.staying.has_distinct_ids.Goals as goal

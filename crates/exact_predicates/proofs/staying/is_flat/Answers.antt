@@ -1,3 +1,4 @@
+-- All points lie on one line where they lie on that of the first two.
 use Rattle.std.proofs.Common.{rules, tests, ◌∙◌, pos}
 use Rattle.std.specs.Ordering.{int_eq}
 use Rattle.std.proofs.lemmas.Iterator.{YieldsList-from_slice}

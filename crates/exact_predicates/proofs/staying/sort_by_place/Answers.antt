@@ -1,3 +1,4 @@
+-- Points that are sorted by their coordinates ascend, since no two have the same.
 use Rattle.std.proofs.Common.{rules}
 use Rattle.std.proofs.lemmas.List.Sorted.{answers_always}
 use Rattle.exact_predicates.proofs.Places.{place_of, ascending-from_sorted, HasDistinctPlaces-IsPermutation}
