@@ -1,7 +1,9 @@
--- The list of all sides, one after another.
-use Rattle.std.proofs.Common.{◌≡◌, ℕ, suc, ◌+◌, ◌<◌, List, [], ◌∷◌, ◌++◌, length, get_or, take, map, Option, Some, None, arith, ap, sym, ◌∙◌, append_assoc}
+-- The list of all sides, one after another, and the pairs of a hull among them.
+use Rattle.std.proofs.Common.{◌≡◌, ◌≢◌, ℕ, suc, ◌+◌, ◌<◌, ◌≤◌, List, [], ◌∷◌, ◌++◌, length, get_or, take, map, AllPairs, Option, Some, None, arith, ap, sym, ◌∙◌, ⊎_elim, append_assoc}
 use Rattle.std.proofs.lemmas.List.{length-take, map-append, take_more}
 use Rattle.exact_predicates.specs.declared.tri.Tri.{Tri}
+use Rattle.exact_predicates.specs.Hull.{IsHullPair}
+use Rattle.exact_predicates.proofs.Rings.{place_of_pair}
 use Rattle.flip_finish.specs.Halves.{numbered_sides, outer_sides}
 
 -- the three sides of the triangle with the number n
@@ -36,3 +38,12 @@ outer_sides-more sides pairs k u v l e =
     ap (λ ps. sides ++ map outer ps) (take_more pairs k (u, v) l ∙ ap (λ p. take k pairs ++ p ∷ []) e)
     ∙ (ap (λ ps. sides ++ ps) (map-append outer (take k pairs) ((u, v) ∷ []))
     ∙ sym (append_assoc sides (outer_sides (take k pairs)) (((v, u), None) ∷ [])))
+
+-- the two ends of a pair of distinct numbers differ
+pub ring_apart : (hull : List ℕ) (u v : ℕ) → 2 ≤ length hull → AllPairs (λ x y. x ≢ y) hull → IsHullPair hull u v → u ≢ v
+ring_apart hull u v some distinct pair e =
+    let (k, k_in, at_k, next) = place_of_pair hull u v pair in
+    ⊎_elim
+    (λ (l, at_next). distinct k (k + 1) 0 (omega arith) l (at_k ∙ (e ∙ sym at_next)))
+    (λ (l, at_next). distinct 0 k 0 (omega arith) k_in (at_next ∙ (sym e ∙ sym at_k)))
+    next

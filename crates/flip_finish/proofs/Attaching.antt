@@ -6,7 +6,7 @@ use Rattle.std.proofs.Math.Seq.{map-set_same}
 use Rattle.exact_predicates.specs.declared.tri.Tri.{Tri}
 use Rattle.exact_predicates.specs.Triangulation.{HasCorners}
 use Rattle.flip_finish.specs.declared.face.Face.{Face}
-use Rattle.flip_finish.specs.Face.{HasSide, IsAttached, IsSideAt, face_tris, with_slot}
+use Rattle.flip_finish.specs.Face.{HasSideAt, IsAttached, IsSideAt, face_tris, with_slot}
 use Rattle.flip_finish.specs.Places.{IsAt}
 use Rattle.flip_finish.proofs.Standing.{IsAt-only, IsAt-set_here, IsAt-set_other, IsAt-unmap}
 
@@ -18,7 +18,7 @@ eqb_no : (x y : ℕ) → x ≢ y → nat_eq x y ≡ false
 eqb_no x y ne = ⊎_elim (λ e. absurd (ne ((Decides-eqb x y).0 e))) (λ e. e) (cases_Bool (nat_eq x y))
 
 -- a face with a new slot for the side from x has it there
-pub with_slot_here : (f : Face) (x y w p : ℕ) → HasCorners f.tri x y w → HasSide (with_slot f x p) x y w p
+pub with_slot_here : (f : Face) (x y w p : ℕ) → HasCorners f.tri x y w → HasSideAt (with_slot f x p) x y w p
 with_slot_here f x y w p h =
     let ab = f.tri.below_b in
     let ac = f.tri.below_c in
@@ -48,7 +48,7 @@ with_slot_here f x y w p h =
     h
 
 -- and its other sides where they were, where x is a corner
-pub with_slot_other : (f : Face) (x y z p u v w q : ℕ) → HasCorners f.tri x y z → u ≢ x → HasSide f u v w q → HasSide (with_slot f x p) u v w q
+pub with_slot_other : (f : Face) (x y z p u v w q : ℕ) → HasCorners f.tri x y z → u ≢ x → HasSideAt f u v w q → HasSideAt (with_slot f x p) u v w q
 with_slot_other f x y z p u v w q corner ne h =
     ⊎_elim
     (λ e.
@@ -107,7 +107,7 @@ others-attached old new t x y w p s u v q tri h at_t c away k =
     let is_f = IsAt-only old t f h.face at_f h.face_at in
     let corners = subst (λ (g : Face). HasCorners g.tri x y w) is_f (subst (λ (k : Tri). HasCorners k x y w) (sym same) c) in
     let is_k = IsAt-only old t k.face h.face (subst (λ n. IsAt old n k.face) e k.face_at) h.face_at in
-    let side = subst (λ g. HasSide g u v k.w q) is_k k.side in
+    let side = subst (λ g. HasSideAt g u v k.w q) is_k k.side in
     record {
       face = with_slot h.face x p;
       w = k.w;

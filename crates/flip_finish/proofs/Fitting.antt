@@ -4,7 +4,7 @@ use Rattle.std.proofs.lemmas.Bool.{cases_eq}
 use Rattle.std.proofs.lemmas.List.{length-set}
 use Rattle.flip_finish.specs.declared.face.Face.{Face}
 use Rattle.flip_finish.specs.declared.slot.Slot.{Slot}
-use Rattle.flip_finish.specs.Face.{Fits, HasSide, IsSideAt}
+use Rattle.flip_finish.specs.Face.{Fits, HasSideAt, IsSideAt}
 use Rattle.flip_finish.specs.Mesh.{HasLeft}
 use Rattle.flip_finish.specs.Places.{IsAt}
 use Rattle.flip_finish.specs.Slot.{with_left}
@@ -24,7 +24,7 @@ renamed_left slots p x y t q u v r e f g h k =
     subst (λ n. HasLeft slots n x y t) (sym e) (subst (λ n. HasLeft slots q n y t) (sym f)
     (subst (λ n. HasLeft slots q u n t) (sym g) (subst (λ n. HasLeft slots q u v n) (sym h) k)))
 
-top_side : (s : Step) (x y w p : ℕ) → HasSide s.top x y w p → IsSideAt (new_faces s) s.i x y p
+top_side : (s : Step) (x y w p : ℕ) → HasSideAt s.top x y w p → IsSideAt (new_faces s) s.i x y p
 top_side s x y w p h =
     record {
       face = s.top;
@@ -33,7 +33,7 @@ top_side s x y w p h =
       side = h;
     }
 
-bottom_side : (s : Step) (x y w p : ℕ) → HasSide s.bottom x y w p → IsSideAt (new_faces s) s.j x y p
+bottom_side : (s : Step) (x y w p : ℕ) → HasSideAt s.bottom x y w p → IsSideAt (new_faces s) s.j x y p
 bottom_side s x y w p h =
     record {
       face = s.bottom;
@@ -50,7 +50,7 @@ to_face_kept s p x y t ne no_ub no_va h =
     ⊎_elim
     (λ t_i.
     let same = IsAt-only s.faces s.i k.face s.left (subst (λ n. IsAt s.faces n k.face) t_i k.face_at) s.left_at in
-    let side = subst (λ f. HasSide f x y k.w p) same k.side in
+    let side = subst (λ f. HasSideAt f x y k.w p) same k.side in
     ⊎_elim
     (λ e. absurd (ne e.3))
     (λ d. ⊎_elim
@@ -62,7 +62,7 @@ to_face_kept s p x y t ne no_ub no_va h =
     (λ t_not_i. ⊎_elim
     (λ t_j.
     let same = IsAt-only s.faces s.j k.face s.right (subst (λ n. IsAt s.faces n k.face) t_j k.face_at) s.right_at in
-    let side = subst (λ f. HasSide f x y k.w p) same k.side in
+    let side = subst (λ f. HasSideAt f x y k.w p) same k.side in
     ⊎_elim
     (λ e. absurd (ne e.3))
     (λ d. ⊎_elim
@@ -119,7 +119,7 @@ to_slot_new : (s : Step) (p x y t : ℕ) → IsSideAt (new_faces s) t x y p → 
 to_slot_new s p x y t k =
     ⊎_elim
     (λ (t_j, same).
-    let side = subst (λ f. HasSide f x y k.w p) same k.side in
+    let side = subst (λ f. HasSideAt f x y k.w p) same k.side in
     ⊎_elim
     (λ e. renamed_left (new_slots s) p x y t s.va s.v s.a s.j e.3 e.0 e.1 t_j (new_va s))
     (λ d. ⊎_elim
@@ -129,7 +129,7 @@ to_slot_new s p x y t k =
     (HasSides-only s.bottom s.v s.a s.b s.va s.slot s.bv x y k.w p s.bottom_is side))
     (λ (not_j, k1). ⊎_elim
     (λ (t_i, same).
-    let side = subst (λ f. HasSide f x y k.w p) same k.side in
+    let side = subst (λ f. HasSideAt f x y k.w p) same k.side in
     ⊎_elim
     (λ e. renamed_left (new_slots s) p x y t s.ub s.u s.b s.i e.3 e.0 e.1 t_i (new_ub s))
     (λ d. ⊎_elim

@@ -3,7 +3,7 @@ use Rattle.std.proofs.Common.{◌≡◌, ◌≢◌, ℕ, List, set, sym, subst, 
 use Rattle.exact_predicates.specs.Candidates.{Joins}
 use Rattle.flip_finish.specs.declared.face.Face.{Face}
 use Rattle.flip_finish.specs.declared.slot.Slot.{Slot}
-use Rattle.flip_finish.specs.Face.{Fits, HasSide, HasSides}
+use Rattle.flip_finish.specs.Face.{Fits, HasSideAt, HasSides}
 use Rattle.flip_finish.specs.Mesh.{HasLeft}
 use Rattle.flip_finish.specs.Places.{IsAt}
 use Rattle.flip_finish.specs.Slot.{IsSlotOf, with_left}
@@ -59,7 +59,7 @@ abbrev pub new_slots : Step → List Slot
 new_slots s = set (with_ub s) s.va (with_left s.va_slot s.v s.a s.j)
 
 -- a side of a face that stands somewhere is at its slot
-at_slot : (s : Step) (t x y w p : ℕ) (f : Face) → IsAt s.faces t f → HasSide f x y w p → HasLeft s.slots p x y t
+at_slot : (s : Step) (t x y w p : ℕ) (f : Face) → IsAt s.faces t f → HasSideAt f x y w p → HasLeft s.slots p x y t
 at_slot s t x y w p f at_t h = s.fits.to_slot p x y t (record { face = f; w = w; face_at = at_t; side = h })
 
 -- the six sides as they were

@@ -22,7 +22,7 @@ use Rattle.flip_finish.specs.Flipping.{IsSameBut, slot_d2}
 use Rattle.flip_finish.specs.Mesh.{HasLeft, IsWithin, slot_edges, triangle_left}
 use Rattle.flip_finish.specs.Places.{IsAt}
 use Rattle.flip_finish.specs.Slot.{with_left}
-use Rattle.flip_finish.proofs.Faces.{HasSide-corners, first_side}
+use Rattle.flip_finish.proofs.Faces.{HasSideAt-corners, first_side}
 use Rattle.flip_finish.proofs.FlipSteps.{Step, new_faces, new_slots, with_diagonal, with_ub, at_bv, at_ub, at_uv, at_va, i_j, ub_slot_apart, va_slot_apart}
 use Rattle.flip_finish.proofs.Slots.{HasLeft-apart, HasLeft-ends, left_down, left_up, with_left_here}
 use Rattle.flip_finish.proofs.Standing.{IsAt-map, IsAt-only, IsAt-set, IsAt-set_other}
@@ -41,12 +41,12 @@ IsFlip-step s =
       right = s.right.tri;
       left_at = (IsAt-map tri s.faces s.i s.left s.left_at).is;
       right_at = (IsAt-map tri s.faces s.j s.right s.right_at).is;
-      left_is = HasSide-corners s.left s.u s.v s.a s.slot (first_side s.left s.left_is);
-      right_is = HasSide-corners s.right s.v s.u s.b s.slot (first_side s.right s.right_is);
+      left_is = HasSideAt-corners s.left s.u s.v s.a s.slot (first_side s.left s.left_is);
+      right_is = HasSideAt-corners s.right s.v s.u s.b s.slot (first_side s.right s.right_is);
       top = s.top.tri;
       bottom = s.bottom.tri;
-      top_is = HasSide-corners s.top s.u s.b s.a s.ub (first_side s.top s.top_is);
-      bottom_is = HasSide-corners s.bottom s.v s.a s.b s.va (first_side s.bottom s.bottom_is);
+      top_is = HasSideAt-corners s.top s.u s.b s.a s.ub (first_side s.top s.top_is);
+      bottom_is = HasSideAt-corners s.bottom s.v s.a s.b s.va (first_side s.bottom s.bottom_is);
       after = map-set tri (set s.faces s.i s.top) s.j s.bottom ∙ ap (λ l. set l s.j s.bottom.tri) (map-set tri s.faces s.i s.top);
     }
 

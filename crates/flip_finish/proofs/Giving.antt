@@ -7,18 +7,18 @@ use Rattle.std.specs.Option.{MatchOption}
 use Rattle.exact_predicates.specs.declared.tri.Tri.{Tri}
 use Rattle.exact_predicates.specs.Candidates.{Joins}
 use Rattle.exact_predicates.specs.Triangulation.{HasCorners}
-use Rattle.exact_predicates.proofs.Equalities.{Joins-ends}
+use Rattle.exact_predicates.proofs.Equalities.{Joins-comm, Joins-ends}
 use Rattle.flip_finish.specs.declared.face.Face.{Face}
 use Rattle.flip_finish.specs.declared.slot.Slot.{Slot}
-use Rattle.flip_finish.specs.Face.{Fits, HasSide, IsAttached, IsSideAt, face_tris}
+use Rattle.flip_finish.specs.Face.{Fits, HasSideAt, IsAttached, IsSideAt, face_tris}
 use Rattle.flip_finish.specs.Mesh.{HasLeft, triangle_left}
 use Rattle.flip_finish.specs.Places.{IsAt}
 use Rattle.flip_finish.specs.Slotted.{AreSlotsOf}
 use Rattle.flip_finish.proofs.Attaching.{others-attached, side-attached, tris-attached}
-use Rattle.flip_finish.proofs.Faces.{HasSide-corners, HasSides-only, side_of_corners, with_sides}
+use Rattle.flip_finish.proofs.Faces.{HasSideAt-corners, HasSides-only, side_of_corners, with_sides}
 use Rattle.flip_finish.proofs.Fitting.{renamed, renamed_left}
-use Rattle.flip_finish.proofs.Seeing.{HasLeft-down, HasLeft-up, first_apart, third_apart}
-use Rattle.flip_finish.proofs.Slots.{HasLeft-apart, HasLeft-ends, HasLeft-only, Joins-ends_only, left_down, left_up}
+use Rattle.flip_finish.proofs.Seeing.{first_apart, third_apart}
+use Rattle.flip_finish.proofs.Slots.{HasLeft-apart, HasLeft-ends, HasLeft-only, Joins-apart, Joins-ends_only, left_down, left_up}
 use Rattle.flip_finish.proofs.Standing.{IsAt-map, IsAt-only}
 
 -- the sides that are done have their slots: those that begin at x in the slot p where it says so
@@ -33,17 +33,7 @@ AndFrom Done n u p x = Done p x ⊎ ((p ≡ n) × (x ≡ u))
 -- the next corner is known
 next_only : (t : Tri) (u v w y z : ℕ) → HasCorners t u v w → HasCorners t u y z → v ≡ y
 next_only t u v w y z h k =
-    let f : Face = record { tri = t; ab = 0; bc = 1; ca = 2 } in
-    let (p, side) = side_of_corners f u y z k in
-    let (q, first) = side_of_corners f u v w h in
-    let (r, s, sides) = with_sides f u v w q first in
-    ⊎_elim
-    (λ e. sym e.1)
-    (λ d. ⊎_elim
-    (λ e. absurd (first_apart f u v w q r s sides e.0))
-    (λ e. absurd (third_apart f u v w q r s sides (sym e.0)))
-    d)
-    (HasSides-only f u v w q r s u y z p sides side)
+    let ab = t.below_b in let ac = t.below_c in let bc = t.apart in omega (arith, h, k)
 
 given_some : (tris : List Tri) (old new : List Face) (slots : List Slot) (Done : ℕ → ℕ → Type 0) (n u v t : ℕ) → AreSlotsOf tris slots
     → AreGiven tris old slots Done → HasLeft slots n u v t → IsAttached old new t u n → AreGiven tris new slots (AndFrom Done n u)
@@ -108,37 +98,35 @@ given_none tris old new slots Done n u g none e =
           done;
     })
 
--- what there is on the left is attached, or nothing changes
-pub given_left : (tris : List Tri) (old new : List Face) (slots : List Slot) (Done : ℕ → ℕ → Type 0) (n : ℕ) (s : Slot) → AreSlotsOf tris slots
-    → AreGiven tris old slots Done → IsAt slots n s → (o : Option ℕ) → s.left ≡ o → MatchOption o (new ≡ old) (λ t. IsAttached old new t s.edge.a n)
-    → AreGiven tris new slots (AndFrom Done n s.edge.a)
-given_left tris old new slots Done n s of g at_n None e h =
-    given_none tris old new slots Done n s.edge.a g
-    (λ y t k.
-    let up = s.edge.ascending in
+-- what there is on the left of x to y is attached, or nothing changes
+given_side : (tris : List Tri) (old new : List Face) (slots : List Slot) (Done : ℕ → ℕ → Type 0) (n : ℕ) (s : Slot) (x y : ℕ) → AreSlotsOf tris slots
+    → AreGiven tris old slots Done → IsAt slots n s → Joins s.edge x y → (o : Option ℕ) → triangle_left s x y ≡ o
+    → MatchOption o (new ≡ old) (λ t. IsAttached old new t x n) → AreGiven tris new slots (AndFrom Done n x)
+given_side tris old new slots Done n s x y of g at_n j None e h =
+    given_none tris old new slots Done n x g
+    (λ z t k.
     let same = IsAt-only slots n k.slot s k.slot_at at_n in
-    let joins = subst (λ (z : Slot). Joins z.edge s.edge.a y) same k.joins in
-    let y_b : y ≡ s.edge.b = ⊎_elim (λ f. f.1) (λ f. absurd (omega (arith, f.0))) (Joins-ends_only s.edge s.edge.a y s.edge.a s.edge.b joins (Joins-ends s.edge)) in
-    none-some t (sym e ∙ (sym (left_up s s.edge.a y (omega arith)) ∙ (ap (λ z. triangle_left z s.edge.a y) (sym same) ∙ k.left))))
+    let joins = subst (λ (r : Slot). Joins r.edge x z) same k.joins in
+    let z_y : z ≡ y = ⊎_elim (λ f. f.1) (λ f. absurd (Joins-apart s.edge x y j f.0)) (Joins-ends_only s.edge x z x y joins j) in
+    none-some t (sym e ∙ (ap (λ w. triangle_left s x w) (sym z_y) ∙ (ap (λ r. triangle_left r x z) (sym same) ∙ k.left))))
     h
-given_left tris old new slots Done n s of g at_n (Some t) e h =
-    given_some tris old new slots Done n s.edge.a s.edge.b t of g (HasLeft-up slots n t s at_n e) h
+given_side tris old new slots Done n s x y of g at_n j (Some t) e h =
+    given_some tris old new slots Done n x y t of g (record { slot = s; slot_at = at_n; joins = j; left = e }) h
 
--- and so on the right
-pub given_right : (tris : List Tri) (old new : List Face) (slots : List Slot) (Done : ℕ → ℕ → Type 0) (n : ℕ) (s : Slot) → AreSlotsOf tris slots
-    → AreGiven tris old slots Done → IsAt slots n s → (o : Option ℕ) → s.right ≡ o → MatchOption o (new ≡ old) (λ t. IsAttached old new t s.edge.b n)
-    → AreGiven tris new slots (AndFrom Done n s.edge.b)
-given_right tris old new slots Done n s of g at_n None e h =
-    given_none tris old new slots Done n s.edge.b g
-    (λ y t k.
+pub given_left : (tris : List Tri) (old new : List Face) (slots : List Slot) (Done : ℕ → ℕ → Type 0) (n : ℕ) (s : Slot) → AreSlotsOf tris slots
+    → AreGiven tris old slots Done → IsAt slots n s → MatchOption s.left (new ≡ old) (λ t. IsAttached old new t s.edge.a n)
+    → AreGiven tris new slots (AndFrom Done n s.edge.a)
+given_left tris old new slots Done n s of g at_n h =
     let up = s.edge.ascending in
-    let same = IsAt-only slots n k.slot s k.slot_at at_n in
-    let joins = subst (λ (z : Slot). Joins z.edge s.edge.b y) same k.joins in
-    let y_a : y ≡ s.edge.a = ⊎_elim (λ f. absurd (omega (arith, f.0))) (λ f. f.1) (Joins-ends_only s.edge s.edge.b y s.edge.a s.edge.b joins (Joins-ends s.edge)) in
-    none-some t (sym e ∙ (sym (left_down s s.edge.b y (omega arith)) ∙ (ap (λ z. triangle_left z s.edge.b y) (sym same) ∙ k.left))))
-    h
-given_right tris old new slots Done n s of g at_n (Some t) e h =
-    given_some tris old new slots Done n s.edge.b s.edge.a t of g (HasLeft-down slots n t s at_n e) h
+    given_side tris old new slots Done n s s.edge.a s.edge.b of g at_n (Joins-ends s.edge) s.left (left_up s s.edge.a s.edge.b up) h
+
+pub given_right : (tris : List Tri) (old new : List Face) (slots : List Slot) (Done : ℕ → ℕ → Type 0) (n : ℕ) (s : Slot) → AreSlotsOf tris slots
+    → AreGiven tris old slots Done → IsAt slots n s → MatchOption s.right (new ≡ old) (λ t. IsAttached old new t s.edge.b n)
+    → AreGiven tris new slots (AndFrom Done n s.edge.b)
+given_right tris old new slots Done n s of g at_n h =
+    let up = s.edge.ascending in
+    given_side tris old new slots Done n s s.edge.b s.edge.a of g at_n (Joins-comm s.edge s.edge.a s.edge.b (Joins-ends s.edge)) s.right
+    (left_down s s.edge.b s.edge.a (omega arith)) h
 
 -- after both the slot is done
 pub given_next : (tris : List Tri) (faces : List Face) (slots : List Slot) (n : ℕ) (s : Slot) → IsAt slots n s
@@ -160,7 +148,7 @@ given_next tris faces slots n s at_n g =
     }
 
 -- a side of a face is at one slot
-side_slot_only : (f : Face) (x y w z p q : ℕ) → HasSide f x y w p → HasSide f x y z q → p ≡ q
+side_slot_only : (f : Face) (x y w z p q : ℕ) → HasSideAt f x y w p → HasSideAt f x y z q → p ≡ q
 side_slot_only f x y w z p q h k =
     let (r, s, sides) = with_sides f x y w p h in
     ⊎_elim
@@ -182,9 +170,9 @@ Fits-given tris faces slots n of few all g =
       to_face = to_face;
       to_slot = λ p x y t h.
           let at_t : IsAt tris t h.face.tri = subst (λ l. IsAt l t h.face.tri) g.same (IsAt-map (λ f. f.tri) faces t h.face h.face_at) in
-          let (q, left) = of.complete t h.face.tri x y h.w at_t (HasSide-corners h.face x y h.w p h.side) in
+          let (q, left) = of.complete t h.face.tri x y h.w at_t (HasSideAt-corners h.face x y h.w p h.side) in
           let k = to_face q x y t left in
-          let side = subst (λ f. HasSide f x y k.w q) (IsAt-only faces t k.face h.face k.face_at h.face_at) k.side in
+          let side = subst (λ f. HasSideAt f x y k.w q) (IsAt-only faces t k.face h.face k.face_at h.face_at) k.side in
           renamed_left slots p x y t q x y t (side_slot_only h.face x y h.w k.w p q h.side side) refl refl refl left;
     }
 

@@ -5,7 +5,7 @@ use Rattle.exact_predicates.specs.declared.point.Point.{Point}
 use Rattle.exact_predicates.specs.declared.tri.Tri.{Tri}
 use Rattle.exact_predicates.specs.Flip.{IsShortening}
 use Rattle.exact_predicates.specs.Triangulation.{HasCorners}
-use Rattle.exact_predicates.proofs.Corners.{to_corners}
+use Rattle.exact_predicates.proofs.Corners.{corner_once, to_corners}
 use Rattle.flip_finish.specs.declared.across.Across.{Across}
 use Rattle.flip_finish.specs.declared.face.Face.{Face}
 use Rattle.flip_finish.specs.declared.slot.Slot.{Slot}
@@ -14,7 +14,7 @@ use Rattle.flip_finish.specs.Face.{Fits, face_tris}
 use Rattle.flip_finish.specs.Flipping.{HasQuad, Shortens}
 use Rattle.flip_finish.specs.Mesh.{HasLeft, IsWithin, Parts}
 use Rattle.flip_finish.specs.Places.{IsAt}
-use Rattle.flip_finish.proofs.Faces.{HasSide-corners, first_side}
+use Rattle.flip_finish.proofs.Faces.{HasSideAt-corners, first_side}
 use Rattle.flip_finish.proofs.Seeing.{first_left}
 use Rattle.flip_finish.proofs.Slots.{HasLeft-ends, HasLeft-only, left_down, left_up}
 use Rattle.flip_finish.proofs.Standing.{IsAt-map, IsAt-only}
@@ -41,44 +41,12 @@ HasQuad-across faces slots slot x fits h =
       right_tri = h.right.face.tri;
       left_at = IsAt-map (λ f. f.tri) faces x.i h.left.face h.left.face_at;
       right_at = IsAt-map (λ f. f.tri) faces x.j h.right.face h.right.face_at;
-      left_is = HasSide-corners h.left.face x.left.u x.left.v x.left.w x.left.uv (first_side h.left.face h.left.sides);
+      left_is = HasSideAt-corners h.left.face x.left.u x.left.v x.left.w x.left.uv (first_side h.left.face h.left.sides);
       right_is =
           subst (λ n. HasCorners h.right.face.tri n x.left.u x.right.w) h.v_is
           (subst (λ n. HasCorners h.right.face.tri x.right.u n x.right.w) h.u_is
-          (HasSide-corners h.right.face x.right.u x.right.v x.right.w x.right.uv (first_side h.right.face h.right.sides)));
+          (HasSideAt-corners h.right.face x.right.u x.right.v x.right.w x.right.uv (first_side h.right.face h.right.sides)));
     }
-
--- the corner across from a side is known by the side
-pub third_only : (t : Tri) (u v w z : ℕ) → HasCorners t u v w → HasCorners t u v z → w ≡ z
-third_only t u v w z h k =
-    let ab = t.below_b in
-    let ac = t.below_c in
-    let bc = t.apart in
-    ⊎_elim
-    (λ e. ⊎_elim
-    (λ g. sym e.2 ∙ g.2)
-    (λ m. ⊎_elim
-    (λ g. let l = e.0 ∙ sym g.0 in absurd (omega arith))
-    (λ g. let l = e.0 ∙ sym g.0 in absurd (omega arith))
-    m)
-    k)
-    (λ n. ⊎_elim
-    (λ e. ⊎_elim
-    (λ g. let l = e.0 ∙ sym g.0 in absurd (omega arith))
-    (λ m. ⊎_elim
-    (λ g. sym e.2 ∙ g.2)
-    (λ g. absurd (bc (e.0 ∙ sym g.0)))
-    m)
-    k)
-    (λ e. ⊎_elim
-    (λ g. let l = e.0 ∙ sym g.0 in absurd (omega arith))
-    (λ m. ⊎_elim
-    (λ g. absurd (bc (g.0 ∙ sym e.0)))
-    (λ g. sym e.2 ∙ g.2)
-    m)
-    k)
-    n)
-    h
 
 -- a slot has one quadrilateral
 pub IsShortening-only : (ps : List Point) (m : Parts) (slot u v a b x y c d : ℕ) → HasQuad m slot u v a b → HasQuad m slot x y c d
@@ -95,8 +63,8 @@ IsShortening-only ps m slot u v a b x y c d h k s =
     let right_tri = IsAt-only m.tris k.j h.right_tri k.right_tri (subst (λ n. IsAt m.tris n h.right_tri) same_j h.right_at) k.right_at in
     let left_is = subst (λ n. HasCorners k.left_tri n v a) ends.0 (subst (λ (t : Tri). HasCorners t u v a) left_tri h.left_is) in
     let right_is = subst (λ n. HasCorners k.right_tri v n b) ends.0 (subst (λ (t : Tri). HasCorners t v u b) right_tri h.right_is) in
-    let a_c = third_only k.left_tri x y a c (subst (λ n. HasCorners k.left_tri x n a) ends.1 left_is) k.left_is in
-    let b_d = third_only k.right_tri y x b d (subst (λ n. HasCorners k.right_tri n x b) ends.1 right_is) k.right_is in
+    let a_c = corner_once k.left_tri x y a c (subst (λ n. HasCorners k.left_tri x n a) ends.1 left_is) k.left_is in
+    let b_d = corner_once k.right_tri y x b d (subst (λ n. HasCorners k.right_tri n x b) ends.1 right_is) k.right_is in
     subst (λ n. IsShortening ps x y c n) b_d (subst (λ n. IsShortening ps x y n b) a_c (subst (λ n. IsShortening ps x n a b) ends.1 (subst (λ n. IsShortening ps n v a b) ends.0 s)))
 
 -- a slot that lacks a triangle has no quadrilateral

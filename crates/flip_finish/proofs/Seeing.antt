@@ -6,7 +6,7 @@ use Rattle.flip_finish.specs.declared.face.Face.{Face}
 use Rattle.flip_finish.specs.declared.face.Seen.{Seen}
 use Rattle.flip_finish.specs.declared.slot.Slot.{Slot}
 use Rattle.flip_finish.specs.Across.{IsAcross, IsSeen}
-use Rattle.flip_finish.specs.Face.{Fits, HasSide, HasSides}
+use Rattle.flip_finish.specs.Face.{Fits, HasSideAt, HasSides}
 use Rattle.flip_finish.specs.Mesh.{HasLeft}
 use Rattle.flip_finish.specs.Places.{IsAt}
 use Rattle.flip_finish.proofs.Faces.{HasSides-only, first_side, second_side}
@@ -53,10 +53,10 @@ face_in faces slots p x y t fits h = (fits.to_face p x y t h).face_at.inside
 
 -- and has the side
 pub side_there : (faces : List Face) (slots : List Slot) (p x y t : ℕ) (f : Face) → Fits faces slots → HasLeft slots p x y t → IsAt faces t f
-    → (w : ℕ) × HasSide f x y w p
+    → (w : ℕ) × HasSideAt f x y w p
 side_there faces slots p x y t f fits h at_t =
     let k = fits.to_face p x y t h in
-    (k.w, subst (λ g. HasSide g x y k.w p) (IsAt-only faces t k.face f k.face_at at_t) k.side)
+    (k.w, subst (λ g. HasSideAt g x y k.w p) (IsAt-only faces t k.face f k.face_at at_t) k.side)
 
 pub corner_there : (faces : List Face) (slots : List Slot) (p x y t : ℕ) (f : Face) → Fits faces slots → HasLeft slots p x y t → IsAt faces t f
     → IsCorner f.tri x

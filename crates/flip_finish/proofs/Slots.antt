@@ -18,7 +18,7 @@ pub left_down : (s : Slot) (x y : ℕ) → y ≤ x → triangle_left s x y ≡ s
 left_down s x y l = cond-false _ s.left s.right (le-ltb x y l)
 
 -- the ends of an edge differ, and are known up to their order
-Joins-apart : (e : Edge) (x y : ℕ) → Joins e x y → x ≢ y
+pub Joins-apart : (e : Edge) (x y : ℕ) → Joins e x y → x ≢ y
 Joins-apart e x y h same = let up = e.ascending in let l = h.0 in let g = h.1 in absurd (omega arith)
 
 pub Joins-ends_only : (e : Edge) (x y z w : ℕ) → Joins e x y → Joins e z w → ((x ≡ z) × (y ≡ w)) ⊎ ((x ≡ w) × (y ≡ z))

@@ -1,13 +1,12 @@
 -- The slots that two sorted lists of halves make, place by place.
-use Rattle.std.proofs.Common.{◌≡◌, ℕ, ◌<◌, ◌≤◌, List, [], ◌∷◌, length, get_or, sum_by, map, zip, AllPairs, arith, ap, sym, ◌∙◌, refl, subst}
+use Rattle.std.proofs.Common.{◌≡◌, ℕ, ◌<◌, ◌≤◌, List, [], ◌∷◌, length, get_or, max, min, sum_by, map, zip, AllPairs, arith, ap, sym, ◌∙◌, refl, subst}
 use Rattle.std.proofs.lemmas.List.{get_or_default, length-map}
 use Rattle.std.proofs.lemmas.List.Sums.{sum_by-cons}
 use Rattle.std.proofs.lemmas.Slice.Zip.{get_or-zip, length-zip}
 use Rattle.exact_predicates.specs.declared.edge.Edge.{Edge}
 use Rattle.flip_finish.specs.declared.halves.Half.{Half}
 use Rattle.flip_finish.specs.declared.slot.Slot.{Slot}
-use Rattle.flip_finish.specs.Mesh.{IsUpTo}
-use Rattle.flip_finish.specs.Mesh.{HasLeft}
+use Rattle.flip_finish.specs.Mesh.{HasLeft, IsUpTo, triangle_left}
 use Rattle.flip_finish.specs.Places.{IsAt}
 use Rattle.flip_finish.specs.Slotted.{slot_of}
 use Rattle.flip_finish.proofs.HalfSums.{IsHalfAt}
@@ -71,58 +70,56 @@ halves_of_slot ups downs slots p s w h =
 slot_there : (ups downs : List Half) (slots : List Slot) (p : ℕ) → ArePaired ups downs slots → p < length ups → (s : Slot) × IsAt slots p s
 slot_there ups downs slots p w l = some_at slots p (omega (arith, slots_length ups downs slots w))
 
--- a triangle on the left of x to y is in the half that goes this way
-pub up_of_left : (ups downs : List Half) (slots : List Slot) (p x y t : ℕ) → ArePaired ups downs slots → x < y → HasLeft slots p x y t → IsHalfAt ups p x y t
-up_of_left ups downs slots p x y t w l h =
-    let k = halves_of_slot ups downs slots p h.slot w h.slot_at in
+-- a triangle on the left of x to y is in the half of this side
+half_of_left : (slots : List Slot) (hs : List Half) (p x y t a b : ℕ) (half : Half) → (h : HasLeft slots p x y t) → IsAt hs p half → h.slot.edge ≡ half.edge
+    → triangle_left h.slot x y ≡ half.face → min x y ≡ a → max x y ≡ b → IsHalfAt hs p a b t
+half_of_left slots hs p x y t a b half h at_p edge face a_is b_is =
     record {
-      half = k.up;
-      half_at = k.up_at;
-      a_is = ap (λ (e : Edge). e.a) (sym k.edge_up) ∙ omega (arith, h.joins.0);
-      b_is = ap (λ (e : Edge). e.b) (sym k.edge_up) ∙ omega (arith, h.joins.1);
-      face_is = sym k.left ∙ (sym (left_up h.slot x y l) ∙ h.left);
-    }
-
-pub down_of_left : (ups downs : List Half) (slots : List Slot) (p x y t : ℕ) → ArePaired ups downs slots → y < x → HasLeft slots p x y t → IsHalfAt downs p y x t
-down_of_left ups downs slots p x y t w l h =
-    let k = halves_of_slot ups downs slots p h.slot w h.slot_at in
-    let g : y ≤ x = omega arith in
-    record {
-      half = k.down;
-      half_at = k.down_at;
-      a_is = ap (λ (e : Edge). e.a) (sym k.edge_down) ∙ omega (arith, h.joins.0);
-      b_is = ap (λ (e : Edge). e.b) (sym k.edge_down) ∙ omega (arith, h.joins.1);
-      face_is = sym k.right ∙ (sym (left_down h.slot x y g) ∙ h.left);
+      half = half;
+      half_at = at_p;
+      a_is = ap (λ (e : Edge). e.a) (sym edge) ∙ (h.joins.0 ∙ a_is);
+      b_is = ap (λ (e : Edge). e.b) (sym edge) ∙ (h.joins.1 ∙ b_is);
+      face_is = sym face ∙ h.left;
     }
 
 -- and the other way round
-pub left_of_up : (ups downs : List Half) (slots : List Slot) (p x y t : ℕ) → ArePaired ups downs slots → x < y → IsHalfAt ups p x y t → HasLeft slots p x y t
-left_of_up ups downs slots p x y t w l h =
-    let (s, at_p) = slot_there ups downs slots p w h.half_at.inside in
-    let k = halves_of_slot ups downs slots p s w at_p in
-    let same = IsAt-only ups p k.up h.half k.up_at h.half_at in
-    let a : s.edge.a ≡ x = ap (λ (e : Edge). e.a) k.edge_up ∙ (ap (λ (g : Half). g.edge.a) same ∙ h.a_is) in
-    let b : s.edge.b ≡ y = ap (λ (e : Edge). e.b) k.edge_up ∙ (ap (λ (g : Half). g.edge.b) same ∙ h.b_is) in
+left_of_half : (slots : List Slot) (hs : List Half) (p x y t a b : ℕ) (s : Slot) (half : Half) → IsAt slots p s → IsAt hs p half → s.edge ≡ half.edge
+    → triangle_left s x y ≡ half.face → min x y ≡ a → max x y ≡ b → IsHalfAt hs p a b t → HasLeft slots p x y t
+left_of_half slots hs p x y t a b s half at_s at_p edge face a_is b_is h =
+    let same = IsAt-only hs p half h.half at_p h.half_at in
     record {
       slot = s;
-      slot_at = at_p;
-      joins = (omega arith, omega arith);
-      left = left_up s x y l ∙ (k.left ∙ (ap (λ (g : Half). g.face) same ∙ h.face_is));
+      slot_at = at_s;
+      joins = (
+        ap (λ (e : Edge). e.a) edge ∙ (ap (λ (g : Half). g.edge.a) same ∙ (h.a_is ∙ sym a_is)),
+        ap (λ (e : Edge). e.b) edge ∙ (ap (λ (g : Half). g.edge.b) same ∙ (h.b_is ∙ sym b_is)),
+      );
+      left = face ∙ (ap (λ (g : Half). g.face) same ∙ h.face_is);
     }
+
+-- upwards
+pub up_of_left : (ups downs : List Half) (slots : List Slot) (p x y t : ℕ) → ArePaired ups downs slots → x < y → HasLeft slots p x y t → IsHalfAt ups p x y t
+up_of_left ups downs slots p x y t w l h =
+    let k = halves_of_slot ups downs slots p h.slot w h.slot_at in
+    half_of_left slots ups p x y t x y k.up h k.up_at k.edge_up (left_up h.slot x y l ∙ k.left) (omega arith) (omega arith)
+
+pub left_of_up : (ups downs : List Half) (slots : List Slot) (p x y t : ℕ) → ArePaired ups downs slots → x < y → IsHalfAt ups p x y t → HasLeft slots p x y t
+left_of_up ups downs slots p x y t w l h =
+    let (s, at_s) = slot_there ups downs slots p w h.half_at.inside in
+    let k = halves_of_slot ups downs slots p s w at_s in
+    left_of_half slots ups p x y t x y s k.up at_s k.up_at k.edge_up (left_up s x y l ∙ k.left) (omega arith) (omega arith) h
+
+-- and downwards
+pub down_of_left : (ups downs : List Half) (slots : List Slot) (p x y t : ℕ) → ArePaired ups downs slots → y < x → HasLeft slots p x y t → IsHalfAt downs p y x t
+down_of_left ups downs slots p x y t w l h =
+    let k = halves_of_slot ups downs slots p h.slot w h.slot_at in
+    half_of_left slots downs p x y t y x k.down h k.down_at k.edge_down (left_down h.slot x y (omega arith) ∙ k.right) (omega arith) (omega arith)
 
 pub left_of_down : (ups downs : List Half) (slots : List Slot) (p x y t : ℕ) → ArePaired ups downs slots → y < x → IsHalfAt downs p y x t → HasLeft slots p x y t
 left_of_down ups downs slots p x y t w l h =
-    let (s, at_p) = slot_there ups downs slots p w (omega (arith, paired_length ups downs slots w, h.half_at.inside)) in
-    let k = halves_of_slot ups downs slots p s w at_p in
-    let same = IsAt-only downs p k.down h.half k.down_at h.half_at in
-    let a : s.edge.a ≡ y = ap (λ (e : Edge). e.a) k.edge_down ∙ (ap (λ (g : Half). g.edge.a) same ∙ h.a_is) in
-    let b : s.edge.b ≡ x = ap (λ (e : Edge). e.b) k.edge_down ∙ (ap (λ (g : Half). g.edge.b) same ∙ h.b_is) in
-    record {
-      slot = s;
-      slot_at = at_p;
-      joins = (omega arith, omega arith);
-      left = left_down s x y (omega arith) ∙ (k.right ∙ (ap (λ (g : Half). g.face) same ∙ h.face_is));
-    }
+    let (s, at_s) = slot_there ups downs slots p w (omega (arith, paired_length ups downs slots w, h.half_at.inside)) in
+    let k = halves_of_slot ups downs slots p s w at_s in
+    left_of_half slots downs p x y t y x s k.down at_s k.down_at k.edge_down (left_down s x y (omega arith) ∙ k.right) (omega arith) (omega arith) h
 
 -- the edges ascend as those of the ups do
 pub slots_ascending : (ups downs : List Half) (slots : List Slot) → ArePaired ups downs slots → AllPairs (λ h k. IsUpTo h.edge k.edge) ups

@@ -6,7 +6,7 @@ use Rattle.flip_finish.specs.declared.face.Face.{Face}
 use Rattle.flip_finish.specs.declared.slot.Slot.{Slot}
 use Rattle.flip_finish.specs.Face.{Fits}
 use Rattle.flip_finish.specs.Mesh.{IsWhole}
-use Rattle.flip_finish.proofs.Faces.{HasSide-corners, side_of_corners}
+use Rattle.flip_finish.proofs.Faces.{HasSideAt-corners, side_of_corners}
 use Rattle.flip_finish.proofs.Quads.{parts}
 use Rattle.flip_finish.proofs.Standing.{IsAt-map, IsAt-unmap}
 
@@ -19,5 +19,5 @@ IsWhole-fits faces slots fits =
           (p, fits.to_slot p x y t (record { face = f; w = w; face_at = at_f; side = side }));
       of_slot = λ p x y t h.
           let k = fits.to_face p x y t h in
-          (k.face.tri, k.w, IsAt-map (λ f. f.tri) faces t k.face k.face_at, HasSide-corners k.face x y k.w p k.side);
+          (k.face.tri, k.w, IsAt-map (λ f. f.tri) faces t k.face k.face_at, HasSideAt-corners k.face x y k.w p k.side);
     }

@@ -7,8 +7,8 @@ use Rattle.flip_finish.specs.Mesh.{HasLeft}
 use Rattle.flip_finish.specs.Places.{IsAt}
 
 -- the face has the side x to y, across from the corner w, and this side is the edge of the slot p
-abbrev pub HasSide : Face → ℕ → ℕ → ℕ → ℕ → Type 0
-HasSide f x y w p =
+abbrev pub HasSideAt : Face → ℕ → ℕ → ℕ → ℕ → Type 0
+HasSideAt f x y w p =
     ((f.tri.a ≡ x) × (f.tri.b ≡ y) × (f.tri.c ≡ w) × (f.ab ≡ p))
     ⊎ (((f.tri.b ≡ x) × (f.tri.c ≡ y) × (f.tri.a ≡ w) × (f.bc ≡ p)) ⊎ ((f.tri.c ≡ x) × (f.tri.a ≡ y) × (f.tri.b ≡ w) × (f.ca ≡ p)))
 
@@ -33,7 +33,7 @@ pub record IsSideAt (faces : List Face) (t x y p : ℕ) : Type 0 where
   pub face : Face
   pub w : ℕ
   pub face_at : IsAt faces t face
-  pub side : HasSide face x y w p
+  pub side : HasSideAt face x y w p
 
 -- in the list of faces the one at t has got the slot p for its side that begins at u
 pub record IsAttached (old new : List Face) (t u p : ℕ) : Type 0 where

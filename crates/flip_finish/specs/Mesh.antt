@@ -1,9 +1,9 @@
 -- A mesh: a list of triangles, and a list of slots, each with an edge and the triangles on its two sides.
-use Rattle.std.specs.Prelude.{◌≡◌, ◌⊎◌, ℕ, ◌+◌, ◌<◌, ◌≤◌, nat_lt, List, length, map, sum_by, Option, Some, None, if◌then◌else◌}
+use Rattle.std.specs.Prelude.{◌≡◌, ℕ, ◌+◌, ◌<◌, nat_lt, List, length, map, sum_by, Option, Some, None, if◌then◌else◌}
 use Rattle.exact_predicates.specs.declared.edge.Edge.{Edge}
 use Rattle.exact_predicates.specs.declared.point.Point.{Point}
 use Rattle.exact_predicates.specs.declared.tri.Tri.{Tri}
-use Rattle.exact_predicates.specs.Candidates.{Joins}
+use Rattle.exact_predicates.specs.Candidates.{EdgePrecedes, Joins}
 use Rattle.exact_predicates.specs.Hull.{IsHullPair}
 use Rattle.exact_predicates.specs.Triangulation.{HasCorners, IsTriangulation, edges, hit}
 use Rattle.flip_finish.specs.declared.slot.Slot.{Slot}
@@ -40,9 +40,9 @@ pub record IsWithin (ps : List Point) (t : Tri) : Type 0 where
   pub b_in : t.b < length ps
   pub c_in : t.c < length ps
 
--- edges by the lesser end, and then by the greater: f does not come before e
+-- in the order of edges f does not come before e
 abbrev pub IsUpTo : Edge → Edge → Type 0
-IsUpTo e f = (e.a < f.a) ⊎ ((e.a ≡ f.a) × (e.b ≤ f.b))
+IsUpTo e f = ¬ EdgePrecedes f e
 
 -- how often the edge xy is in a list, whichever way round
 abbrev pub edge_count : List (ℕ × ℕ) → ℕ → ℕ → ℕ

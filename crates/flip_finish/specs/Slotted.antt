@@ -5,8 +5,7 @@ use Rattle.exact_predicates.specs.Hull.{IsHullPair, ring_pairs}
 use Rattle.exact_predicates.specs.Triangulation.{HasCorners, hit, side_count}
 use Rattle.flip_finish.specs.declared.halves.Half.{Half}
 use Rattle.flip_finish.specs.declared.slot.Slot.{Slot}
-use Rattle.flip_finish.specs.Mesh.{IsUpTo}
-use Rattle.flip_finish.specs.Mesh.{HasLeft}
+use Rattle.flip_finish.specs.Mesh.{HasLeft, IsUpTo}
 use Rattle.flip_finish.specs.Places.{IsAt}
 
 -- x to y, with the outer sides of the hull, occurs as often as y to x

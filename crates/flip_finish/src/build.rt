@@ -11,15 +11,20 @@ use exact_predicates::Tri;
 use mwt_base::NoMemory;
 use std::alloc::{AllocError, Global};
 
-// The slots in ascending order of their edges.
-pub fn slots_of(alloc: Global, hull: &[u32], tris: &[Tri]) -> Result<Vec<Slot>, NoMemory>
+// The slots in ascending order of their edges. Room is made for so many.
+pub fn slots_of(
+    alloc: Global,
+    room: usize,
+    hull: &[u32],
+    tris: &[Tri],
+) -> Result<Vec<Slot>, NoMemory>
     requires some { 2 ≤ length hull.now }
     requires distinct { AllPairs (λ u v. u ≢ v) hull.now }
     requires few { 3 * length tris.now + length hull.now < 2 ^ 32 }
     requires met { (x y : ℕ) → x ≢ y → IsMet hull.now tris.now x y }
     ensures { IfOk result (λ slots. AreSlots hull.now tris.now slots.items) }
 {
-    let Halves { mut ups, mut downs } = Halves::of(alloc, hull, tris)?;
+    let Halves { mut ups, mut downs } = Halves::of(alloc, room, hull, tris)?;
     sort_by_edge(&mut ups)?;
     sort_by_edge(&mut downs)?;
     let slots = joined(alloc, &ups, &downs)?;

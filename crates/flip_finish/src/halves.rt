@@ -1,7 +1,7 @@
 // The directed sides of a triangulation.
 ghost use Rattle.std.specs.Prelude.{◌≡◌, ◌≢◌, ◌<◌, ◌≤◌, ◌^◌, ℕ, List, [], ◌∷◌, ◌++◌, Option, length, AllPairs, IfOk, OnOk, IsPermutation};
 
-use exact_predicates::{Edge, Tri};
+use exact_predicates::{Edge, Tri, next_on_hull};
 use mwt_base::NoMemory;
 use std::alloc::{AllocError, Global};
 
@@ -21,19 +21,24 @@ pub struct Halves {
 }
 
 impl Halves {
-    ghost use Rattle.exact_predicates.specs.Hull.{IsHull};
     ghost use Rattle.flip_finish.specs.Halves.{AreSplit, all_sides};
 
-    // The sides of all triangles, and the outer sides of the hull's pairs.
-    pub fn of(alloc: Global, hull: &[u32], tris: &[Tri]) -> Result<Halves, NoMemory>
+    // The sides of all triangles, and the outer sides of the hull's pairs. Room is made for so many
+    // ups and downs.
+    pub fn of(
+        alloc: Global,
+        room: usize,
+        hull: &[u32],
+        tris: &[Tri],
+    ) -> Result<Halves, NoMemory>
         requires some { 2 ≤ length hull.now }
         requires distinct { AllPairs (λ u v. u ≢ v) hull.now }
         requires few { length tris.now < 2 ^ 32 }
         ensures { IfOk result (λ halves. AreSplit (all_sides hull.now tris.now) halves.ups.items halves.downs.items) }
     {
         let mut halves = Halves {
-            ups: Vec::new(alloc),
-            downs: Vec::new(alloc),
+            ups: Vec::with_capacity(alloc, room)?,
+            downs: Vec::with_capacity(alloc, room)?,
         };
         for (i, tri) in tris.iter().enumerate() {
             let face = Some(i as u32);
@@ -42,11 +47,7 @@ impl Halves {
             halves.add(tri.c, tri.a, face)?;
         }
         for (k, &from) in hull.iter().enumerate() {
-            let to = if k + 1 < hull.len() {
-                hull[k + 1]
-            } else {
-                hull[0]
-            };
+            let to = next_on_hull(hull, k);
             halves.add(to, from, None)?;
         }
         Ok(halves)

@@ -51,9 +51,9 @@ impl Mesh {
         ensures mesh { IfOk result (λ mesh. IsMeshOf points.now.points hull.now mesh) }
         ensures within { IfOk result (λ mesh. All (IsWithin points.now.points) mesh.tris) }
     {
-        let most = 2 * points.len();
-        prove!(tris.len() < most);
-        let slots = slots_of(alloc, hull.as_slice(), tris.as_slice())?;
+        // A triangulation of n points has fewer than 3n edges.
+        let room = 3 * points.len() as usize;
+        let slots = slots_of(alloc, room, hull.as_slice(), tris.as_slice())?;
         let faces = attached(alloc, tris.as_slice(), &slots)?;
         Ok(Mesh { faces, slots })
     }

@@ -1,3 +1,4 @@
+-- A side gets its slot, where there is a triangle.
 use Rattle.std.proofs.Common.{slice_set, sym, ap, ◌∙◌}
 use Rattle.flip_finish.specs.Face.{with_slot}
 use Rattle.flip_finish.proofs.build.attach.Goals as goal

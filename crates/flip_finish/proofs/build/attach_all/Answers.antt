@@ -1,3 +1,4 @@
+-- Both sides of one slot more are given it.
 use Rattle.std.proofs.Common.{◌<◌, sym, refl, arith}
 use Rattle.flip_finish.specs.Face.{face_tris}
 use Rattle.flip_finish.specs.Places.{IsAt}
@@ -19,7 +20,7 @@ pub attach-requires-in-loop-p : goal.attach-requires-in-loop-p
 attach-requires-in-loop-p c = λ t e.
     let s = c.index-slots-p.result in
     let here : IsAt c.args.slots.now c.loop-p.p s = record { inside = c.loop-p-test.true; is = sym c.index-slots-p.is } in
-    let left = given_left (face_tris c.args.faces.now) c.loop-p.faces c.attach.new.faces c.args.slots.now (λ p x. p < c.loop-p.p) c.loop-p.p s c.requires.slots c.loop-p.invariant here s.left refl c.attach.ensures in
+    let left = given_left (face_tris c.args.faces.now) c.loop-p.faces c.attach.new.faces c.args.slots.now (λ p x. p < c.loop-p.p) c.loop-p.p s c.requires.slots c.loop-p.invariant here c.attach.ensures in
     left_in (face_tris c.args.faces.now) c.attach.new.faces c.args.slots.now c.loop-p.p s.edge.b s.edge.a t c.requires.slots left.same
     (HasLeft-down c.args.slots.now c.loop-p.p t s here e)
 
@@ -30,9 +31,9 @@ loop-p-preserved c =
     let slots = c.args.slots.now in
     let n = c.loop-p.p in
     let here : IsAt slots n s = record { inside = c.loop-p-test.true; is = sym c.index-slots-p.is } in
-    let left = given_left tris c.loop-p.faces c.attach.new.faces slots (λ p x. p < n) n s c.requires.slots c.loop-p.invariant here s.left refl c.attach.ensures in
+    let left = given_left tris c.loop-p.faces c.attach.new.faces slots (λ p x. p < n) n s c.requires.slots c.loop-p.invariant here c.attach.ensures in
     given_next tris c.attach-in-loop-p.new.faces slots n s here
-    (given_right tris c.attach.new.faces c.attach-in-loop-p.new.faces slots _ n s c.requires.slots left here s.right refl c.attach-in-loop-p.ensures)
+    (given_right tris c.attach.new.faces c.attach-in-loop-p.new.faces slots _ n s c.requires.slots left here c.attach-in-loop-p.ensures)
 
 pub returns-clause-fits : goal.returns-clause-fits
 returns-clause-fits c =

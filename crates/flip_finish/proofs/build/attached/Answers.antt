@@ -1,3 +1,4 @@
+-- Faces with their slots are the triangles that came.
 use Rattle.std.proofs.Common.{subst, sym, ap, ◌∙◌}
 use Rattle.std.proofs.lemmas.List.{with_items_is}
 use Rattle.flip_finish.specs.Face.{face_tris}

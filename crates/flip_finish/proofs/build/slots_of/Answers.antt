@@ -1,3 +1,4 @@
+-- Sorted halves have the same edges, place by place.
 use Rattle.flip_finish.specs.Halves.{all_sides}
 use Rattle.flip_finish.proofs.HalfSums.{AreMoved, have_same}
 use Rattle.flip_finish.proofs.PairedHalves.{same_edges}

@@ -1,3 +1,4 @@
+-- Sorted by a key is sorted by the order of edges.
 use Rattle.std.proofs.Common.{rules}
 use Rattle.std.proofs.lemmas.List.Sorted.{answers_always}
 use Rattle.flip_finish.specs.declared.halves.Half.{Half}

@@ -1,3 +1,4 @@
+-- One slot more is tried, and what a pass leaves.
 use Rattle.std.proofs.Common.{arith}
 use Rattle.std.proofs.lemmas.Bool.{both_ways}
 use Rattle.flip_finish.proofs.Minimal.{IsFlipMinimal-still}

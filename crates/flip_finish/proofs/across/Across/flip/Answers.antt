@@ -1,3 +1,4 @@
+-- What is written makes the two faces on the other diagonal.
 use Rattle.std.proofs.Common.{◌≡◌, slice_set, sym, ap, arith, refl, ◌∙◌}
 use Rattle.std.proofs.lemmas.List.{length-set}
 use Rattle.flip_finish.specs.Slot.{with_left}

@@ -1,3 +1,4 @@
+-- The two faces are there, and have the edge.
 use Rattle.std.proofs.Common.{sym, inl, inr}
 use Rattle.flip_finish.specs.Places.{IsAt}
 use Rattle.flip_finish.proofs.Seeing.{HasLeft-down, HasLeft-up, IsAcross-seen, corner_there, face_in}

@@ -1,3 +1,4 @@
+-- A flip of the faces and slots is one of the mesh.
 use Rattle.std.proofs.Common.{◌<◌, sum_by, sym, ◌∙◌, subst}
 use Rattle.std.proofs.lemmas.List.{with_items_is}
 use Rattle.std.specs.Vec.{with_items}

@@ -1,9 +1,14 @@
-use Rattle.std.proofs.Common.{subst, sym, ap, ◌∙◌}
+-- The slots of a triangulation make its mesh.
+use Rattle.std.proofs.Common.{length, subst, sym, ap, ◌∙◌, arith}
 use Rattle.exact_predicates.specs.Triangulation.{IsTriangulation, edges}
 use Rattle.exact_predicates.proofs.EdgeCounts.{edge_count-sides}
 use Rattle.flip_finish.specs.Mesh.{edge_count}
 use Rattle.flip_finish.proofs.HullSums.{sides_met}
 use Rattle.flip_finish.proofs.mesh.Mesh.from_tris.Goals as goal
+
+pub slots_of-requires-clause-few : goal.slots_of-requires-clause-few
+slots_of-requires-clause-few c =
+    omega (arith, c.len.ensures.value, c.len.ensures.valid.not_more, c.requires.tris.count, ap length c.as_slice.ensures.is, ap length c.as_slice-2.ensures.is)
 
 pub slots_of-requires-clause-met : goal.slots_of-requires-clause-met
 slots_of-requires-clause-met c = λ x y ne.

@@ -1,3 +1,4 @@
+-- The test is that of the slot's quadrilateral.
 use Rattle.std.proofs.Common.{arith}
 use Rattle.flip_finish.proofs.Quads.{HasQuad-across, within_quad}
 use Rattle.flip_finish.proofs.Testing.{by_crossing, not_shorter}

@@ -1,3 +1,4 @@
+-- A mesh whose faces and slots fit is whole.
 use Rattle.std.proofs.Common.{subst}
 use Rattle.flip_finish.specs.Mesh.{IsWhole}
 use Rattle.flip_finish.proofs.Wholes.{IsWhole-fits}
