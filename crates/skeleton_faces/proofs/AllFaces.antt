@@ -13,6 +13,7 @@ use Rattle.skeleton_faces.specs.Turning.{AreNexts}
 use Rattle.skeleton_faces.specs.Rounds.{AreFollowing, AreTraced, IsCycleFrom, step_on}
 use Rattle.skeleton_faces.proofs.Cycles.{round_is}
 use Rattle.skeleton_faces.proofs.Nexts.{nexts_only}
+use Rattle.skeleton_faces.proofs.Once.{IsLedCycle, cycles_apart, once_in_cycle}
 use Rattle.skeleton_faces.proofs.SideNumbers.{side_of}
 use Rattle.skeleton_faces.proofs.Traces.{all_done}
 use Rattle.skeleton_faces.proofs.Ways.{step_in}
@@ -26,9 +27,9 @@ AreFollowing-nexts ps es nexts clear n =
       on = λ s s_in. n.on s (omega (arith, n.one_each));
     }
 
--- a cycle of sides is a face
-IsFace-cycle : (ps : List Point) (es : List Edge) (nexts cycle : List ℕ) → AreNexts ps es nexts → AreFollowing es nexts → IsCycleFrom es nexts (length es) cycle → IsFace ps es cycle
-IsFace-cycle ps es nexts cycle n f h =
+-- a cycle of sides follows the rule of faces
+IsLedCycle-from : (ps : List Point) (es : List Edge) (nexts cycle : List ℕ) → AreNexts ps es nexts → AreFollowing es nexts → IsCycleFrom es nexts (length es) cycle → IsLedCycle ps es cycle
+IsLedCycle-from ps es nexts cycle n f h =
     record {
       some = omega (arith, count_is, h.some);
       follows = λ k k_in. rw (at k, at (k + 1), at (k + 2)) (next k);
@@ -61,11 +62,17 @@ IsFace-cycle ps es nexts cycle n f h =
         subst (λ (x : ℕ). IsNextSide ps es (side_start es (step_on nexts (2 * h.edge) k)) (side_start es (step_on nexts (2 * h.edge) (k + 1))) x) end
         (subst (λ (v : ℕ). IsNextSide ps es (side_start es (step_on nexts (2 * h.edge) k)) v (side_end es (slice_index nexts (step_on nexts (2 * h.edge) k)))) (on k) here)
 
+-- and is a face
+IsFace-led : (ps : List Point) (es : List Edge) (cycle : List ℕ) → IsLedCycle ps es cycle → IsFace ps es cycle
+IsFace-led ps es cycle h = record { some = h.some; follows = h.follows; once = once_in_cycle ps es cycle h; least = h.least }
+
 pub AreFaces-traced : (ps : List Point) (es : List Edge) (nexts : List ℕ) (rounds : Rounds) → AreClear ps es → AreNexts ps es nexts → AreTraced es nexts (length es) rounds → AreFaces ps es (pieces rounds.starts.items rounds.bounds.items)
 AreFaces-traced ps es nexts rounds clear n t =
     let f = AreFollowing-nexts ps es nexts clear n in
+    let led = All-weaker (IsCycleFrom es nexts (length es)) (IsLedCycle ps es) (λ c h. IsLedCycle-from ps es nexts c n f h) (pieces rounds.starts.items rounds.bounds.items) t.each in
     record {
-      each = All-weaker (IsCycleFrom es nexts (length es)) (IsFace ps es) (λ c h. IsFace-cycle ps es nexts c n f h) (pieces rounds.starts.items rounds.bounds.items) t.each;
+      each = All-weaker (IsLedCycle ps es) (IsFace ps es) (λ c h. IsFace-led ps es c h) (pieces rounds.starts.items rounds.bounds.items) led;
+      apart = cycles_apart ps es (pieces rounds.starts.items rounds.bounds.items) led t.ascending;
       ascending = t.ascending;
       all = λ u v edge.
           let (s, s_in, start, end) = side_of es u v edge in

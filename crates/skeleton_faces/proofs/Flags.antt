@@ -26,40 +26,40 @@ fell (b ∷ bs) (suc i) (suc k) h = ⊎_elim (λ e. inl (ap suc e)) (λ d. inr d
 
 module _ {X : Type 0} where
   -- what is chosen from nothing
-  pub chosen-none : (flags : List Bool) → items_where_true {X = X} flags [] ≡ []
-  chosen-none [] = refl
-  chosen-none (b ∷ bs) = refl
+  pub items_where_true-none : (flags : List Bool) → items_where_true {X = X} flags [] ≡ []
+  items_where_true-none [] = refl
+  items_where_true-none (b ∷ bs) = refl
 
   -- no more are chosen than there are
-  pub length-chosen : (flags : List Bool) (xs : List X) → length (items_where_true flags xs) ≤ length xs
-  length-chosen [] xs = omega arith
-  length-chosen (b ∷ bs) [] = omega arith
-  length-chosen (true ∷ bs) (x ∷ xs) = let h = length-chosen bs xs in omega arith
-  length-chosen (false ∷ bs) (x ∷ xs) = let h = length-chosen bs xs in omega arith
+  pub length-items_where_true : (flags : List Bool) (xs : List X) → length (items_where_true flags xs) ≤ length xs
+  length-items_where_true [] xs = omega arith
+  length-items_where_true (b ∷ bs) [] = omega arith
+  length-items_where_true (true ∷ bs) (x ∷ xs) = let h = length-items_where_true bs xs in omega arith
+  length-items_where_true (false ∷ bs) (x ∷ xs) = let h = length-items_where_true bs xs in omega arith
 
   -- one item more, with its flag up
-  pub chosen-up : (flags : List Bool) (xs : List X) (k : ℕ) (d : X) → k < length xs → get_or flags k false ≡ true
+  pub items_where_true-take_up : (flags : List Bool) (xs : List X) (k : ℕ) (d : X) → k < length xs → get_or flags k false ≡ true
       → items_where_true flags (take (k + 1) xs) ≡ items_where_true flags (take k xs) ++ get_or xs k d ∷ []
-  chosen-up flags xs k d k_in h = rw (add-one) (at flags xs k k_in h)
+  items_where_true-take_up flags xs k d k_in h = rw (add-one) (at flags xs k k_in h)
     where
       at : (bs : List Bool) (ys : List X) (j : ℕ) → j < length ys → get_or bs j false ≡ true → items_where_true bs (take (suc j) ys) ≡ items_where_true bs (take j ys) ++ get_or ys j d ∷ []
       at [] ys j l e = absurd (false≢true e)
       at (b ∷ bs) [] j l e = absurd (omega arith)
-      at (true ∷ bs) (y ∷ ys) zero l e = ap (λ zs. y ∷ zs) (chosen-none bs)
+      at (true ∷ bs) (y ∷ ys) zero l e = ap (λ zs. y ∷ zs) (items_where_true-none bs)
       at (false ∷ bs) (y ∷ ys) zero l e = absurd (false≢true e)
       at (true ∷ bs) (y ∷ ys) (suc j) l e = ap (λ zs. y ∷ zs) (at bs ys j (omega arith) e)
       at (false ∷ bs) (y ∷ ys) (suc j) l e = at bs ys j (omega arith) e
 
   -- and with its flag down
-  pub chosen-down : (flags : List Bool) (xs : List X) (k : ℕ) → get_or flags k false ≡ false
+  pub items_where_true-take_down : (flags : List Bool) (xs : List X) (k : ℕ) → get_or flags k false ≡ false
       → items_where_true flags (take (k + 1) xs) ≡ items_where_true flags (take k xs)
-  chosen-down flags xs k h = rw (add-one) (at flags xs k h)
+  items_where_true-take_down flags xs k h = rw (add-one) (at flags xs k h)
     where
       at : (bs : List Bool) (ys : List X) (j : ℕ) → get_or bs j false ≡ false → items_where_true bs (take (suc j) ys) ≡ items_where_true bs (take j ys)
       at [] ys j e = refl
       at (b ∷ bs) [] zero e = refl
       at (b ∷ bs) [] (suc j) e = refl
       at (true ∷ bs) (y ∷ ys) zero e = absurd (false≢true (sym e))
-      at (false ∷ bs) (y ∷ ys) zero e = chosen-none bs
+      at (false ∷ bs) (y ∷ ys) zero e = items_where_true-none bs
       at (true ∷ bs) (y ∷ ys) (suc j) e = ap (λ zs. y ∷ zs) (at bs ys j e)
       at (false ∷ bs) (y ∷ ys) (suc j) e = at bs ys j e

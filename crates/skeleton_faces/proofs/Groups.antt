@@ -29,14 +29,6 @@ pub record IsOnWay (old : List ℕ) (p : ℕ) (parents : List ℕ) (place : ℕ)
   pub joined : (es : List Edge) → AreJoinedParents es old → AreJoinedParents es parents × AreJoined es p place
   pub named : (name : ℕ → ℕ) → IsNaming old name → IsNaming parents name × (name p ≡ name place)
 
-pub on_way_start : (parents : List ℕ) (p : ℕ) → AreLesser parents → IsOnWay parents p parents p
-on_way_start parents p lesser = record {
-  bound = omega arith;
-  lesser = lesser;
-  joined = λ es h. (h, joined_itself es p p refl);
-  named = λ name h. (h, refl);
-}
-
 -- two steps further
 pub on_way_next : (old : List ℕ) (p : ℕ) (parents : List ℕ) (q up next : ℕ) → IsOnWay old p parents q → q < length parents → up ≡ slice_index parents q → up < q
     → next ≡ slice_index parents up → IsOnWay old p (set parents q next) next

@@ -10,6 +10,8 @@ pub mod Keeping
 pub mod Links
 pub mod Marking
 pub mod Nexts
+pub mod Once
+pub mod OneNext
 pub mod Overlaps
 pub mod Passes
 pub mod SideNumbers

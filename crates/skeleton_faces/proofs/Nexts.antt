@@ -8,6 +8,7 @@ use Rattle.exact_predicates.specs.declared.point.Point.{Point}
 use Rattle.exact_predicates.specs.Candidates.{HasEdge}
 use Rattle.exact_predicates.specs.Plane.{orient, Precedes}
 use Rattle.exact_predicates.specs.PointSet.{IsPointSet, point_at}
+use Rattle.exact_predicates.proofs.Equalities.{HasEdge-comm}
 use Rattle.exact_predicates.proofs.Numbers.{IsOrdered-points}
 use Rattle.exact_predicates.proofs.Orientation.{orient_swapped_last}
 use Rattle.skeleton_faces.specs.Faces.{AreClear, AreClockwise, IsNextSide}
@@ -15,9 +16,9 @@ use Rattle.skeleton_faces.specs.Marks.{nth_edge}
 use Rattle.skeleton_faces.specs.Sides.{is_backward, side_start, side_end, twin}
 use Rattle.skeleton_faces.specs.Turning.{AreLinked, AreNexts, AreTurning, ComesAfter, IsBefore, StartsRise, TurnsTo}
 use Rattle.skeleton_faces.proofs.Clockwise.{AreLeftward, leftward_next, leftward_clockwise, two_after, two_before}
+use Rattle.skeleton_faces.proofs.OneNext.{next_only}
 use Rattle.skeleton_faces.proofs.SideNumbers.{IsSideOf, side_cases, forward_is, backward_is, forward_start, forward_end, backward_start, backward_end, side_only, side_edge, side_of, start_twin, end_twin, twin-in, twin-twin}
 use Rattle.skeleton_faces.proofs.SideNumbers.IsSideOf.{goes_forward, goes_backward}
-use Rattle.skeleton_faces.proofs.Walks.{HasEdge-comm}
 
 module _ (ps : List Point) (es : List Edge) (is : IsPointSet ps) (clear : AreClear ps es) where
   -- the end of a side forward comes after its start, and of one backward before it
@@ -198,34 +199,6 @@ distinct_turning ps es order is clear o i j d l j_in e =
     let j_is = get_or_default order j d 0 j_in in
     let same = place_only ps es is clear order o i j (omega arith) j_in (sym i_is ∙ (e ∙ j_is)) in
     omega arith
-
--- one side comes after one other at most
-pub next_only : (ps : List Point) (es : List Edge) (u w v x : ℕ) → IsNextSide ps es u v x → IsNextSide ps es w v x → u ≡ w
-next_only ps es u w v x h k =
-    ⊎_elim (λ e. e)
-    (λ apart. absurd (⊎_elim
-    (λ (e : x ≡ u). apart (sym (h.alone e w (HasEdge-comm es w v k.side))))
-    (λ (xu : x ≢ u). ⊎_elim
-    (λ (e : x ≡ w). apart (k.alone e u (HasEdge-comm es u v h.side)))
-    (λ (xw : x ≢ w). both_ways (h.first w (HasEdge-comm es w v k.side) (λ e. apart (sym e)) (λ e. xw (sym e))) (k.first u (HasEdge-comm es u v h.side) apart (λ e. xu (sym e))))
-    (cases_eq x w))
-    (cases_eq x u)))
-    (cases_eq u w)
-  where
-    both_ways : AreClockwise (point_at ps v) (point_at ps u) (point_at ps x) (point_at ps w) → AreClockwise (point_at ps v) (point_at ps w) (point_at ps x) (point_at ps u) → ⊥
-    both_ways a b =
-        let e1 = orient_swapped_last (point_at ps v) (point_at ps u) (point_at ps x) in
-        let e2 = orient_swapped_last (point_at ps v) (point_at ps x) (point_at ps w) in
-        let e3 = orient_swapped_last (point_at ps v) (point_at ps w) (point_at ps u) in
-        ⊎_elim
-        (λ a1. let a10 = a1.0 in let a11 = a1.1 in
-        ⊎_elim (λ b1. let b10 = b1.0 in let b11 = b1.1 in omega (arith, ints)) (⊎_elim (λ b1. let b10 = b1.0 in let b11 = b1.1 in omega (arith, ints)) (λ b1. let b10 = b1.0 in let b11 = b1.1 in omega (arith, ints))) b)
-        (⊎_elim
-        (λ a1. let a10 = a1.0 in let a11 = a1.1 in
-        ⊎_elim (λ b1. let b10 = b1.0 in let b11 = b1.1 in omega (arith, ints)) (⊎_elim (λ b1. let b10 = b1.0 in let b11 = b1.1 in omega (arith, ints)) (λ b1. let b10 = b1.0 in let b11 = b1.1 in omega (arith, ints))) b)
-        (λ a1. let a10 = a1.0 in let a11 = a1.1 in
-        ⊎_elim (λ b1. let b10 = b1.0 in let b11 = b1.1 in omega (arith, ints)) (⊎_elim (λ b1. let b10 = b1.0 in let b11 = b1.1 in omega (arith, ints)) (λ b1. let b10 = b1.0 in let b11 = b1.1 in omega (arith, ints))) b))
-        a
 
 -- the sides that follow are different ones
 pub nexts_only : (ps : List Point) (es : List Edge) (nexts : List ℕ) → AreClear ps es → AreNexts ps es nexts → (s t : ℕ) → s < 2 * length es → t < 2 * length es → slice_index nexts s ≡ slice_index nexts t → s ≡ t

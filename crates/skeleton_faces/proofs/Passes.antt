@@ -10,7 +10,7 @@ use Rattle.exact_predicates.specs.Candidates.{EdgePrecedes}
 use Rattle.exact_predicates.specs.Plane.{AreApart}
 use Rattle.exact_predicates.specs.PointSet.{IsPointSet}
 use Rattle.exact_predicates.proofs.Numbers.{IsOrdered-points, number_order}
-use Rattle.exact_predicates.proofs.Orientation.{orient_turned, orient_swapped}
+use Rattle.exact_predicates.proofs.Orientation.{orient_return}
 use Rattle.lmt_network.specs.Skeleton.{AreCrossing, IsSkeletonEdge, AreSkeleton}
 use Rattle.lmt_network.proofs.Picked.{all-from-members, picked_in, picked_from, AllPairs-picked}
 use Rattle.std.specs.List.{items_where_true}
@@ -104,8 +104,7 @@ IsPass-close ps es i pass after up i_in p same opens frees =
 -- no edge crosses itself
 uncrossed_alone : (p q : Point) → ¬ AreApart p q p q
 uncrossed_alone p q h =
-    let e = orient_turned p p q in
-    let z = orient_swapped p p q in
+    let e = orient_return p q in
     ⊎_elim (λ k. let k0 = k.0 in omega (arith, ints)) (λ k. let k0 = k.0 in omega (arith, ints)) h
 
 -- behind the last edge the flags are right

@@ -204,21 +204,3 @@ all_done es nexts rounds f t s s_in =
     ⊎_elim (λ up. up)
     (λ down. let (e, e_in, e_down, low) = forward_below es nexts f rounds.done.items t.closed s s_in down in absurd (false≢true (sym e_down ∙ t.forward e e_in)))
     (cases_Bool (get_or rounds.done.items s false))
-
--- an edge whose side forward is in a face already
-pub AreTraced-skip : (es : List Edge) (nexts : List ℕ) (n : ℕ) (rounds : Rounds) → AreTraced es nexts n rounds → get_or rounds.done.items (2 * n) false ≡ true → AreTraced es nexts (n + 1) rounds
-AreTraced-skip es nexts n rounds t up =
-    record {
-      one_each = t.one_each;
-      closed = t.closed;
-      forward = below_more _ n t.forward up;
-      bounds = t.bounds;
-      last = t.last;
-      few = omega (arith, t.few);
-      each = All-weaker (IsCycleFrom es nexts n) (IsCycleFrom es nexts (n + 1)) further (pieces rounds.starts.items rounds.bounds.items) t.each;
-      ascending = t.ascending;
-      covered = t.covered;
-    }
-  where
-    further : (c : List ℕ) → IsCycleFrom es nexts n c → IsCycleFrom es nexts (n + 1) c
-    further c h = let l = h.edge_in in record { edge = h.edge; count = h.count; edge_in = omega arith; some = h.some; back = h.back; is = h.is; first = h.first; least = h.least }

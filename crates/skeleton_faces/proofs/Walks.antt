@@ -2,12 +2,8 @@
 use Rattle.std.proofs.Common.{◌≡◌, ℕ, List, [], ◌∷◌, refl, sym, ◌∙◌, subst}
 use Rattle.exact_predicates.specs.declared.edge.Edge.{Edge}
 use Rattle.exact_predicates.specs.Candidates.{HasEdge}
-use Rattle.exact_predicates.proofs.Elements.{Any-weaker}
-use Rattle.exact_predicates.proofs.Equalities.{Joins-comm}
+use Rattle.exact_predicates.proofs.Equalities.{HasEdge-comm}
 use Rattle.skeleton_faces.specs.Walks.{LeadsTo, AreJoined}
-
-pub HasEdge-comm : (es : List Edge) (u v : ℕ) → HasEdge es u v → HasEdge es v u
-HasEdge-comm es u v h = Any-weaker _ _ (λ e j. Joins-comm e u v j) es h
 
 pub joined_itself : (es : List Edge) (u v : ℕ) → u ≡ v → AreJoined es u v
 joined_itself es u v e = ([], e)

@@ -31,21 +31,28 @@ round_at cycle k = slice_index cycle (k % length cycle)
 abbrev pub SidePrecedes : ℕ → ℕ → ℕ → ℕ → Type 0
 SidePrecedes u v x y = (u < x) ⊎ ((u ≡ x) × (v < y))
 
--- A face: a cycle of sides by their starts, each side followed by the one after it. It begins at its least side.
+-- the side at the place k of the cycle c is that at the place m of the cycle d
+abbrev pub IsSameSide : List ℕ → ℕ → List ℕ → ℕ → Type 0
+IsSameSide c k d m = (round_at c k ≡ round_at d m) × (round_at c (k + 1) ≡ round_at d (m + 1))
+
+-- A face: a cycle of sides by their starts, each side followed by the one after it, and none of them twice. It begins at
+-- its least side.
 pub record IsFace (ps : List Point) (es : List Edge) (cycle : List ℕ) : Type 0 where
   pub some : 0 < length cycle
   pub follows : (k : ℕ) → k < length cycle → IsNextSide ps es (round_at cycle k) (round_at cycle (k + 1)) (round_at cycle (k + 2))
+  pub once : (k m : ℕ) → k < m → m < length cycle → ¬ IsSameSide cycle k cycle m
   pub least : (k : ℕ) → 0 < k → k < length cycle → SidePrecedes (round_at cycle 0) (round_at cycle 1) (round_at cycle k) (round_at cycle (k + 1))
 
 -- the side u to v is one of the cycle's
 abbrev pub HasRoundSide : List ℕ → ℕ → ℕ → Type 0
 HasRoundSide cycle u v = (k : ℕ) × (k < length cycle) × (round_at cycle k ≡ u) × (round_at cycle (k + 1) ≡ v)
 
--- The faces of the edges: together they have each side, and they come in the order of their first sides.
+-- The faces of the edges: each side stands in one of them, and they come in the order of their first sides.
 pub record AreFaces (ps : List Point) (es : List Edge) (cycles : List (List ℕ)) : Type 0 where
   pub each : All (IsFace ps es) cycles
-  pub ascending : AllPairs (λ c d. SidePrecedes (round_at c 0) (round_at c 1) (round_at d 0) (round_at d 1)) cycles
   pub all : (u v : ℕ) → HasEdge es u v → Any (λ c. HasRoundSide c u v) cycles
+  pub apart : AllPairs (λ c d. (u v : ℕ) → HasRoundSide c u v → ¬ HasRoundSide d u v) cycles
+  pub ascending : AllPairs (λ c d. SidePrecedes (round_at c 0) (round_at c 1) (round_at d 0) (round_at d 1)) cycles
 
 -- Edges of the points that have faces: ascending, with no point between their ends. So no two at one point have the same
 -- direction.

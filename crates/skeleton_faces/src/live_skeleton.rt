@@ -11,8 +11,10 @@ use lmt_network::{Flags, Network};
 use mwt_base::NoMemory;
 use std::alloc::{AllocError, Global};
 
-/// The skeleton of the live edges: those that no other live edge crosses, ascending. After Dickerson
-/// and Montague, "A (usually?) connected subgraph of the minimum weight triangulation" (1996).
+/// The skeleton of the live edges: those that no other live edge crosses, ascending. `NoMemory` is the
+/// only error. Each edge is tested against those that are open where it begins, and only pairs of which
+/// one is not known to be crossed. After M. T. Dickerson and M. H. Montague, "A (usually?) connected
+/// subgraph of the minimum weight triangulation" (1996).
 pub fn skeleton(
     alloc: Global,
     points: &Points,
@@ -44,15 +46,15 @@ fn live(alloc: Global, net: &Network, flags: &Flags) -> Result<Vec<Edge>, AllocE
     Ok(live)
 }
 
-// The edges whose flags are set.
+// The edges of which the flag is set.
 fn chosen(alloc: Global, edges: &[Edge], flags: &[bool]) -> Result<Vec<Edge>, AllocError>
     requires { length flags.now ≡ length edges.now }
     ensures { IfOk result (λ chosen. chosen.items ≡ items_where_true flags.now edges.now) }
 {
     let mut chosen = Vec::new(alloc);
-    for (e, flag) in edges.iter().enumerate() {
-        if flags[e] {
-            chosen.push(*flag)?;
+    for (number, edge) in edges.iter().enumerate() {
+        if flags[number] {
+            chosen.push(*edge)?;
         }
     }
     Ok(chosen)

@@ -6,7 +6,7 @@ ghost use Rattle.skeleton_faces.specs.Rays.{AreRays, ray_cmp};
 ghost use Rattle.skeleton_faces.specs.Turning.{AreTurning};
 
 use crate::ray::Ray;
-use exact_predicates::{Edge, Points};
+use exact_predicates::{Edge, Point};
 use std::alloc::{AllocError, Global};
 use std::cmp::Ordering;
 
@@ -22,16 +22,16 @@ fn compare(s: &Ray, t: &Ray) -> Ordering
 }
 
 // The sides of the edges as their starts see them, in their order.
-fn rays(alloc: Global, points: &Points, edges: &[Edge]) -> Result<Vec<Ray>, AllocError>
-    requires points { IsPointSet points.now.points }
-    requires ends_in { All (λ e. e.b < length points.now.points) edges.now }
+fn rays(alloc: Global, points: &[Point], edges: &[Edge]) -> Result<Vec<Ray>, AllocError>
+    requires points { IsPointSet points.now }
+    requires ends_in { All (λ e. e.b < length points.now) edges.now }
     requires few { length edges.now < 2 ^ 32 }
-    ensures { IfOk result (λ rays. AreRays points.now.points edges.now rays.items) }
+    ensures { IfOk result (λ rays. AreRays points.now edges.now rays.items) }
 {
     let mut rays = Vec::new(alloc);
     for (number, edge) in edges.iter().enumerate() {
-        let a = points.at(edge.a);
-        let b = points.at(edge.b);
+        let a = &points[edge.a as usize];
+        let b = &points[edge.b as usize];
         rays.push(Ray::of(a, b, edge.a, false, 2 * number))?;
         rays.push(Ray::of(a, b, edge.b, true, 2 * number + 1))?;
     }
@@ -42,13 +42,13 @@ fn rays(alloc: Global, points: &Points, edges: &[Edge]) -> Result<Vec<Ray>, Allo
 /// The sides of the edges by number, start by start, and round each start to the left.
 pub(crate) fn sides_round(
     alloc: Global,
-    points: &Points,
+    points: &[Point],
     edges: &[Edge],
 ) -> Result<Vec<usize>, AllocError>
-    requires points { IsPointSet points.now.points }
-    requires clear { AreClear points.now.points edges.now }
+    requires points { IsPointSet points.now }
+    requires clear { AreClear points.now edges.now }
     requires few { length edges.now < 2 ^ 32 }
-    ensures { IfOk result (λ order. AreTurning points.now.points edges.now order.items) }
+    ensures { IfOk result (λ order. AreTurning points.now edges.now order.items) }
 {
     let rays = rays(alloc, points, edges)?;
     Ok(rays.iter().map(|ray| ray.side).collect(alloc)?)

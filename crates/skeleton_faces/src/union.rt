@@ -10,7 +10,7 @@ use mwt_base::NoMemory;
 use std::alloc::Global;
 
 /// Whether the edges join all points: whether a walk along them leads from each point to each other
-/// one. It takes time n log n at most.
+/// one. `NoMemory` is the only error. For n points and edges it takes time n log n at most.
 pub fn connected(alloc: Global, points: &Points, skeleton: &Edges) -> Result<bool, NoMemory>
     requires { All (λ e. e.b < length points.now.points) skeleton.now }
     ensures { IfOk result (λ joined. IsTrue joined ↔ IsConnected points.now.points skeleton.now) }

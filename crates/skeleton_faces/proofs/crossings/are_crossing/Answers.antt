@@ -1,3 +1,4 @@
+-- The test is asked of the four ends.
 use Rattle.std.proofs.Common.{◌≡◌, sym, ◌∙◌}
 use Rattle.std.proofs.lemmas.List.{get_or_default}
 use Rattle.skeleton_faces.specs.Marks.{nth_edge}

@@ -1,3 +1,4 @@
+-- None of the edges that were tried crosses it.
 use Rattle.std.proofs.Common.{◌≡◌, ℕ, slice_index, sym, ◌∙◌, subst, arith, below_more}
 use Rattle.std.proofs.lemmas.Bool.{false≢true}
 use Rattle.std.proofs.lemmas.List.{get_or_default}

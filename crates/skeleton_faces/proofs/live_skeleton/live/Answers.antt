@@ -1,23 +1,24 @@
+-- One edge more is live, or not.
 use Rattle.std.proofs.Common.{◌≡◌, ◌++◌, ◌∷◌, [], sym, ◌∙◌, ap, List, length, ◌<◌, arith}
 use Rattle.std.proofs.lemmas.List.{get_or_default}
 use Rattle.exact_predicates.specs.declared.edge.Edge.{Edge}
-use Rattle.skeleton_faces.proofs.Flags.{chosen-none, chosen-up, chosen-down}
+use Rattle.skeleton_faces.proofs.Flags.{items_where_true-none, items_where_true-take_up, items_where_true-take_down}
 use Rattle.skeleton_faces.proofs.live_skeleton.live.Goals as goal
 use Rattle.skeleton_faces.proofs.live_skeleton.live.Goals.{then-live+in_ok-push, else-live}
 
 pub loop-e-init : goal.loop-e-init
-loop-e-init c = c.new-live.ensures.items ∙ sym (chosen-none c.args.flags.now)
+loop-e-init c = c.new-live.ensures.items ∙ sym (items_where_true-none c.args.flags.now)
 
 pub loop-e-preserved : goal.loop-e-preserved
 loop-e-preserved c =
     elim c.if-live.branch [
       | then-live+in_ok-push w ↦
           let e_in : c.loop-e.e < length c.args.net.now.edges = omega (arith, c.loop-e-test.true, c.edges-e-end.ensures.value) in
-          let up = chosen-up c.args.flags.now c.args.net.now.edges c.loop-e.e w.edge.result e_in (sym c.live.ensures ∙ w.if-live.true) in
+          let up = items_where_true-take_up c.args.flags.now c.args.net.now.edges c.loop-e.e w.edge.result e_in (sym c.live.ensures ∙ w.if-live.true) in
           let same = get_or_default c.args.net.now.edges c.loop-e.e w.edge.result _ e_in ∙ sym w.edge.ensures.value in
           ap (λ v. v.items) w.live-is ∙ (w.in_ok-push.ensures.items ∙ (grown c.loop-e.invariant same ∙ sym up))
       | else-live w ↦
-          ap (λ v. v.items) w.live-is ∙ (c.loop-e.invariant ∙ sym (chosen-down c.args.flags.now c.args.net.now.edges c.loop-e.e (sym c.live.ensures ∙ w.if-live.false)))
+          ap (λ v. v.items) w.live-is ∙ (c.loop-e.invariant ∙ sym (items_where_true-take_down c.args.flags.now c.args.net.now.edges c.loop-e.e (sym c.live.ensures ∙ w.if-live.false)))
     ]
   where
     grown : {xs ys : List Edge} {x y : Edge} → xs ≡ ys → y ≡ x → xs ++ x ∷ [] ≡ ys ++ y ∷ []

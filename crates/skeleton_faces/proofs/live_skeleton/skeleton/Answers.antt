@@ -1,3 +1,4 @@
+-- What is chosen of the live edges is their skeleton.
 use Rattle.std.proofs.Common.{◌≡◌, ◌<◌, List, length, All, AllPairs, sym, ◌∙◌, ap, subst, arith}
 use Rattle.exact_predicates.specs.declared.edge.Edge.{Edge}
 use Rattle.exact_predicates.specs.Candidates.{EdgePrecedes}
@@ -5,7 +6,7 @@ use Rattle.exact_predicates.specs.PointSet.{IsPointSet}
 use Rattle.lmt_network.specs.Flags.{live_edges}
 use Rattle.lmt_network.proofs.Picked.{All-picked, AllPairs-picked}
 use Rattle.skeleton_faces.specs.Marks.{AreUncrossed}
-use Rattle.skeleton_faces.proofs.Flags.{length-chosen}
+use Rattle.skeleton_faces.proofs.Flags.{length-items_where_true}
 use Rattle.skeleton_faces.proofs.Passes.{AreSkeleton-chosen}
 use Rattle.skeleton_faces.proofs.live_skeleton.skeleton.Goals as goal
 
@@ -23,8 +24,8 @@ uncrossed-requires-clause-ends_in c =
 
 pub of-requires : goal.of-requires
 of-requires c =
-    let few = length-chosen c.deref-3.result.now c.deref-2.result.now in
-    let fewer = length-chosen c.args.flags.now c.args.net.now.edges in
+    let few = length-items_where_true c.deref-3.result.now c.deref-2.result.now in
+    let fewer = length-items_where_true c.args.flags.now c.args.net.now.edges in
     let live_is : c.deref-2.result.now ≡ live_edges c.args.net.now c.args.flags.now = c.deref-2.ensures.value ∙ c.in_ok-live.ensures.live in
     omega (arith, c.in_ok-live.ensures.valid.few_edges, ap length c.in_ok-skeleton.ensures, ap length live_is)
 

@@ -1,3 +1,4 @@
+-- One number more is kept, or not.
 use Rattle.std.proofs.Common.{◌≡◌, ℕ, true, false, ap, get_or, sym, ◌∙◌, arith}
 use Rattle.std.proofs.lemmas.Bool.{false≢true}
 use Rattle.std.proofs.lemmas.List.{take_all}

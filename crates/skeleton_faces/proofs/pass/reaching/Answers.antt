@@ -1,3 +1,4 @@
+-- One number more is kept, or not.
 use Rattle.std.proofs.Common.{◌≡◌, ◌<◌, ℕ, ap, get_or, sym, ◌∙◌, subst, arith}
 use Rattle.std.proofs.lemmas.List.{get_or_default, take_all}
 use Rattle.exact_predicates.specs.declared.edge.Edge.{Edge}

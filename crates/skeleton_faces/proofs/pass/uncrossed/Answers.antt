@@ -1,3 +1,4 @@
+-- Behind the last edge the flags are right.
 use Rattle.std.proofs.Common.{◌≡◌, ℕ, length, subst, arith}
 use Rattle.skeleton_faces.specs.Marks.{IsPass}
 use Rattle.skeleton_faces.proofs.Passes.{AreUncrossed-pass}

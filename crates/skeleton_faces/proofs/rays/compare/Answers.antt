@@ -1,3 +1,4 @@
+-- The product of widths and heights fits.
 use Rattle.skeleton_faces.proofs.Directions.{kept}
 use Rattle.skeleton_faces.proofs.rays.compare.Goals as goal
 

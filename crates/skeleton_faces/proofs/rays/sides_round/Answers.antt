@@ -1,3 +1,4 @@
+-- Sorted rays turn to the left round their starts.
 use Rattle.std.proofs.Common.{◌≡◌, map, rules}
 use Rattle.skeleton_faces.specs.declared.ray.Ray.{Ray}
 use Rattle.skeleton_faces.proofs.Turning.{AreTurning-map}

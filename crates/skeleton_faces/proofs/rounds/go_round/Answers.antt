@@ -1,3 +1,4 @@
+-- The way is one side longer, and ends where it began.
 use Rattle.std.proofs.Common.{◌+◌, ◌∷◌, ◌++◌, [], slice_index, refl, ap, ◌∙◌, add-one, arith}
 use Rattle.std.proofs.lemmas.List.{length-set}
 use Rattle.skeleton_faces.proofs.Ways.{left_over_falls, way-start, way-more, way-back}

@@ -1,3 +1,4 @@
+-- The side before is at the place before, or the last one with this start.
 use Rattle.std.proofs.Common.{◌∙◌, sym, inr, arith}
 use Rattle.skeleton_faces.proofs.Links.{before_first}
 use Rattle.skeleton_faces.proofs.turns.before.Goals as goal

@@ -1,3 +1,4 @@
+-- No later side has this start.
 use Rattle.std.proofs.Common.{sym, ◌∙◌}
 use Rattle.skeleton_faces.proofs.Links.{past_last}
 use Rattle.skeleton_faces.proofs.turns.last_round.Goals as goal

@@ -1,3 +1,4 @@
+-- One side more has its next one.
 use Rattle.std.proofs.Common.{◌<◌, length, slice_index, ◌∙◌, arith}
 use Rattle.std.proofs.lemmas.List.{length-set}
 use Rattle.skeleton_faces.proofs.Links.{linked_more}

@@ -1,3 +1,4 @@
+-- Groups stay right edge by edge, and in the end tell whether all is joined.
 use Rattle.std.proofs.Common.{◌≡◌, ℕ, ◌<◌, length, sym, ◌∙◌, ap, subst, arith}
 use Rattle.std.proofs.lemmas.List.{get_or_default, with_items_is}
 use Rattle.skeleton_faces.specs.Marks.{nth_edge}

@@ -1,3 +1,4 @@
+-- Two groups become one, and nothing else is joined.
 use Rattle.std.proofs.Common.{◌≡◌, ℕ, ◌<◌, ◌≤◌, length, sym, ◌∙◌, arith}
 use Rattle.skeleton_faces.specs.Walks.{AreJoined}
 use Rattle.skeleton_faces.proofs.Groups.{AreJoinedParents-link, IsNaming-link, by_size, linked, linked-coarser, linked-both}

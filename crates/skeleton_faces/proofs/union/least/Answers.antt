@@ -1,3 +1,4 @@
+-- A shorter way leads to the same least point.
 use Rattle.std.proofs.Common.{refl, arith}
 use Rattle.skeleton_faces.proofs.Groups.{on_way_next}
 use Rattle.skeleton_faces.proofs.union.least.Goals as goal

@@ -1,3 +1,4 @@
+-- A face is the piece of the table between two bounds.
 use Rattle.std.proofs.Common.{◌+◌, ℕ, List, [], get_or, length, sym, ap, ◌∙◌, arith}
 use Rattle.skeleton_faces.proofs.Cuts.{length-pieces, get_or-pieces}
 use Rattle.skeleton_faces.proofs.face_list.Faces.cycle.Goals as goal

@@ -1,3 +1,4 @@
+-- There are as many faces as pieces.
 use Rattle.std.proofs.Common.{ap, length, arith}
 use Rattle.skeleton_faces.proofs.Cuts.{length-pieces}
 use Rattle.skeleton_faces.proofs.face_list.Faces.len.Goals as goal

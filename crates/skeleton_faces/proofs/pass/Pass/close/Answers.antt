@@ -1,3 +1,4 @@
+-- The open edges are those that reach past the present point.
 use Rattle.std.proofs.Common.{◌≡◌, ◌<◌, Contains, length, get_or, refl, arith}
 use Rattle.std.proofs.lemmas.List.{get_or_default}
 use Rattle.std.proofs.lemmas.List.Elements.{All-contains}

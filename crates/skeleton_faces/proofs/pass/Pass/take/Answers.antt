@@ -1,3 +1,4 @@
+-- The pass with one edge more.
 use Rattle.std.proofs.Common.{Bool, List, sym, ◌∙◌, subst}
 use Rattle.std.proofs.lemmas.List.{with_items_is}
 use Rattle.skeleton_faces.specs.Marks.{IsMarked}

@@ -1,3 +1,4 @@
+-- A ray goes to the right, or straight up, and is no longer than the plane allows.
 use Rattle.std.proofs.Common.{⊎_elim, arith}
 use Rattle.std.proofs.lemmas.Int.{ints}
 use Rattle.exact_predicates.proofs.Gaps.{gap_x, gap_y, width_le, height_le}

@@ -1,3 +1,4 @@
+-- One face more, or none.
 use Rattle.std.proofs.Common.{◌++◌, ◌∷◌, [], ◌*◌, ℕ, Bool, List, ap, sym, ◌∙◌, subst}
 use Rattle.std.proofs.lemmas.List.{with_items_is}
 use Rattle.skeleton_faces.specs.Rounds.{IsRound}
