@@ -3,7 +3,7 @@ use Rattle.std.proofs.Common.{◌≡◌, pos, ◌+ℤ◌, ◌≤ℤ◌, ◌<ℤ�
 use Rattle.std.proofs.lemmas.Int.{ints}
 use Rattle.exact_predicates.specs.declared.point.Point.{Point}
 use Rattle.exact_predicates.specs.Plane.{orient, Precedes}
-use Rattle.exact_predicates.proofs.Orientation.{orient_swapped}
+use Rattle.exact_predicates.proofs.Orientation.{orient_last_twice, orient_return, orient_swapped}
 use Rattle.hull_sweep.specs.declared.side.Side.{Side}
 use Rattle.hull_sweep.specs.declared.side.Side.TheVariants.{Lower, Upper}
 use Rattle.hull_sweep.specs.Chain.{turn}
@@ -11,11 +11,13 @@ use Rattle.hull_sweep.proofs.Wedges.{wedge, turn_chain, turn_from, turn_to, turn
 
 -- a triangle with a corner twice has no area
 pub turn_first : (s : Side) (p q : Point) → turn s p q p ≡ pos 0
-turn_first s p q = omega (arith, ints, turn_swap s p p q, turn_cycle s p p q, turn_cycle s p q p)
+turn_first Lower p q = orient_return p q
+turn_first Upper p q = orient_last_twice q p
 
 -- whichever corner it is
 pub turn_last : (s : Side) (p q : Point) → turn s p q q ≡ pos 0
-turn_last s p q = omega (arith, ints, turn_swap s q q p, turn_cycle s p q q, turn_cycle s q q p)
+turn_last Lower p q = orient_last_twice p q
+turn_last Upper p q = orient_return q p
 
 -- changing the last two points turns the sign
 pub turn_swap_last : (s : Side) (p q r : Point) → turn s p r q +ℤ turn s p q r ≡ pos 0

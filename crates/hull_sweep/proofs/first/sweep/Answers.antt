@@ -1,3 +1,4 @@
+-- All points swept are the hull and a triangulation.
 use Rattle.std.proofs.Common.{length}
 use Rattle.exact_predicates.proofs.Triangulations.{IsTriangulation-permutation}
 use Rattle.exact_predicates.specs.PointSet.{point_at}

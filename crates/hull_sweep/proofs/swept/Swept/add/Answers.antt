@@ -1,3 +1,4 @@
+-- The sweep with one point more.
 use Rattle.std.proofs.Common.{length}
 use Rattle.exact_predicates.proofs.Numbers.{IsOrdered-points}
 use Rattle.exact_predicates.specs.PointSet.{point_at}
