@@ -28,8 +28,8 @@ new_entry n es fs e x c =
 pub other_entry : (n : NetworkParts) (es fs : List Entry) (e : ℕ) (x : Entry) (k : ℕ) → IsChange n es fs e x → k ≢ e → entry fs k ≡ entry es k
 other_entry n es fs e x k c away = ap (λ gs. entry gs k) c.is ∙ get_or-set_other es e k x no_entry away
 
-pub one-each : (n : NetworkParts) (es fs : List Entry) (e : ℕ) (x : Entry) → IsChange n es fs e x → length fs ≡ length n.edges
-one-each n es fs e x c = ap length c.is ∙ (length-set es e x ∙ c.belong.one_each)
+pub changed_length : (n : NetworkParts) (es fs : List Entry) (e : ℕ) (x : Entry) → IsChange n es fs e x → length fs ≡ length n.edges
+changed_length n es fs e x c = ap length c.is ∙ (length-set es e x ∙ c.belong.one_each)
 
 -- the list of a field that is the same in the new entry
 pub same_field : {Y : Type 0} (f : Entry → Y) (es : List Entry) (e : ℕ) (x : Entry) (d : Y) → get_or (map f es) e d ≡ f x → map f (set es e x) ≡ map f es
@@ -40,10 +40,10 @@ live_same n es fs e x c = ap live_of c.is ∙ same_field (λ p. p.live) es e x f
 
 -- the live triangles are the same
 pub live_back : (n : NetworkParts) (es fs : List Entry) (e : ℕ) (x : Entry) (t : Tri) → IsChange n es fs e x → IsLiveTriangle n.points (prices_of n fs) t → IsLiveTriangle n.points (prices_of n es) t
-live_back n es fs e x t c over = same_live n fs es t (one-each n es fs e x c) c.belong.one_each (live_same n es fs e x c) over
+live_back n es fs e x t c over = same_live n fs es t (changed_length n es fs e x c) c.belong.one_each (live_same n es fs e x c) over
 
 pub live_forth : (n : NetworkParts) (es fs : List Entry) (e : ℕ) (x : Entry) (t : Tri) → IsChange n es fs e x → IsLiveTriangle n.points (prices_of n es) t → IsLiveTriangle n.points (prices_of n fs) t
-live_forth n es fs e x t c over = same_live n es fs t c.belong.one_each (one-each n es fs e x c) (sym (live_same n es fs e x c)) over
+live_forth n es fs e x t c over = same_live n es fs t c.belong.one_each (changed_length n es fs e x c) (sym (live_same n es fs e x c)) over
 
 pub bare_back : (n : NetworkParts) (es fs : List Entry) (e : ℕ) (x : Entry) (u v : ℕ) → IsChange n es fs e x → IsBareSide n.points (prices_of n fs) u v → IsBareSide n.points (prices_of n es) u v
 bare_back n es fs e x u v c bare t on = bare t (on.0, live_forth n es fs e x t c on.1)
@@ -55,7 +55,7 @@ share-other n es fs e x k u v c away live is =
     let same = other_entry n es fs e x k c away in
     let net = c.belong.network in
     let price : kept_price n fs k ≡ kept_price n es k = ap (λ (p : Entry). record { edge = edge_at n k; value = p.value; left = p.left; right = p.right }) same in
-    share-kept n fs k u v net (one-each n es fs e x c) (ap (λ (p : Entry). p.live) same ∙ live) is
+    share-kept n fs k u v net (changed_length n es fs e x c) (ap (λ (p : Entry). p.live) same ∙ live) is
     ∙ (ap (λ p. side_share n.points n.hull p u v) price ∙ sym (share-kept n es k u v net c.belong.one_each live is))
 
 -- the side of an edge that is either one of its two
@@ -102,7 +102,7 @@ pub belong_changed : (n : NetworkParts) (es fs : List Entry) (e : ℕ) (x : Entr
 belong_changed n es fs e x c own feasible =
     record {
       network = c.belong.network;
-      one_each = one-each n es fs e x c;
+      one_each = changed_length n es fs e x c;
       light = λ k k_in live. c.belong.light k k_in (sym (live_at es k) ∙ (ap (λ bs. get_or bs k false) (sym (live_same n es fs e x c)) ∙ (live_at fs k ∙ live)));
       each = λ k k_in.
           ⊎_elim

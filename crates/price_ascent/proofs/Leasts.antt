@@ -61,14 +61,14 @@ least_all n es row u v i least b members all within h = at least h
         (k, omega arith, subst (AreSidesLive n es) (sym same) alive, ap (slack_at n es) same ∙ ap (slack n.points n.hull (prices_of n es)) is)
 
     -- the live triangle at a place of the row
-    on-side : (k : ℕ) → k < i → AreSidesLive n es (slice_index row k) → IsLiveOn n.points (prices_of n es) u v (tri_at n (slice_index row k))
-    on-side k l alive =
+    on_side : (k : ℕ) → k < i → AreSidesLive n es (slice_index row k) → IsLiveOn n.points (prices_of n es) u v (tri_at n (slice_index row k))
+    on_side k l alive =
         let h = (members (slice_index row k)).0 (Contains-get_or row k 0 (omega arith)) in
         (h.1, live_triangle n es (slice_index row k) b.network b.one_each h.0 alive)
 
     at : (least : Option ℤ) → IsLeastUpto n es row i least → IsLeastSlack n.points n.hull (prices_of n es) u v (unwrap_or least (pos 0))
     at None h = inr (λ t on. let p = place t on in h p.0 p.1 p.2, refl)
     at (Some m) h = inl (
-      (tri_at n (slice_index row h.0.0), on-side h.0.0 h.0.1 h.0.2, h.0.3),
+      (tri_at n (slice_index row h.0.0), on_side h.0.0 h.0.1 h.0.2, h.0.3),
       λ t on. let p = place t on in subst (λ (z : ℤ). m ≤ℤ z) p.3 (h.1 p.0 p.1 p.2),
     )

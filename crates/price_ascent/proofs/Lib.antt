@@ -11,6 +11,8 @@ pub mod LiveSides
 pub mod Lowering
 pub mod Mixing
 pub mod OnceEach
+pub mod OneAscent
+pub mod OneSweep
 pub mod PriceLists
 pub mod Raised
 pub mod RaisedSides

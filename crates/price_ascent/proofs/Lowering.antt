@@ -11,7 +11,7 @@ use Rattle.price_ascent.specs.Ascent.{IsLeastSlack, IsLiveOn, lowest}
 use Rattle.price_ascent.specs.Belonging.{BelongTo}
 use Rattle.price_ascent.specs.Entries.{entry, prices_of}
 use Rattle.price_ascent.specs.Steps.{lowered}
-use Rattle.price_ascent.proofs.Changed.{IsChange, bare_back, belong_changed, hull_of, live_back, new_entry, one-each, share-other, which_side}
+use Rattle.price_ascent.proofs.Changed.{IsChange, bare_back, belong_changed, hull_of, live_back, new_entry, changed_length, share-other, which_side}
 use Rattle.price_ascent.proofs.Changes.{AreUpTo, side_or_not, with_side, without_side}
 use Rattle.price_ascent.proofs.LiveSides.{side_number}
 use Rattle.price_ascent.proofs.Shares.{has_shares, hull_number, on_hull, own_shares}
@@ -47,7 +47,7 @@ shares_fallen n es fs e m f =
     let off = inner_off n e f.inner in
     let old = own_shares n es e c.belong c.e_in f.live in
     let is = new_entry n es fs e (lowered (entry es e) m) c in
-    let new = has_shares n fs e c.belong.network (one-each n es fs e (lowered (entry es e) m) c) c.e_in (ap (λ (p : Entry). p.live) is ∙ f.live) in
+    let new = has_shares n fs e c.belong.network (changed_length n es fs e (lowered (entry es e) m) c) c.e_in (ap (λ (p : Entry). p.live) is ∙ f.live) in
     let old_up = old.off_up off in
     let old_down = old.off_down off in
     let new_up = new.off_up off in

@@ -1,6 +1,6 @@
 -- Anchors that are raised one after the other are raised as tightening says: each by the least slack under the new anchors
 -- of earlier sides and the old ones of the others.
-use Rattle.std.proofs.Common.{◌≡◌, ◌⊎◌, ℕ, ◌<◌, ◌≤◌, ◌||◌, nat_lt, Bool, true, false, List, [], ◌∷◌, ◌++◌, length, map, flat_map, AllPairs, Contains, ℤ, ◌+ℤ◌, Decides, refl, ap, sym, ◌∙◌, subst, arith, ⊎_elim, inl, inr}
+use Rattle.std.proofs.Common.{◌≡◌, ◌⊎◌, ℕ, ◌||◌, nat_lt, Bool, true, false, List, [], ◌∷◌, ◌++◌, map, flat_map, AllPairs, Contains, ℤ, ◌+ℤ◌, Decides, refl, ap, sym, ◌∙◌, subst, ⊎_elim, inl, inr}
 use Rattle.std.specs.List.{list_any}
 use Rattle.std.proofs.lemmas.List.{append_assoc}
 use Rattle.std.proofs.lemmas.Bool.{cases_Bool, cond-false, cond-true, ltb-false, ltb-true}
@@ -19,24 +19,24 @@ use Rattle.lmt_network.specs.PriceTables.{PriceTable, entry_at}
 use Rattle.lmt_network.specs.Prices.{Priced, is_on_hull}
 use Rattle.lmt_network.proofs.Entries.{is_on_hull-comm, is_on_hull_decides}
 use Rattle.lmt_network.proofs.Picked.{contains-here, contains-later}
-use Rattle.price_ascent.specs.Ascent.{IsLeastSlack, IsRaised, IsTighten, anchor_at, anchored_sides, both_sides, is_among, left_at, mixed_entry, right_at, value_at}
+use Rattle.price_ascent.specs.Ascent.{IsLeastSlack, IsRaised, IsTighten, anchor_at, anchored_sides, both_sides, is_among, mixed_entry}
 use Rattle.price_ascent.specs.Raised.{IsRaisedAlong}
-use Rattle.price_ascent.proofs.Along.{AreOutside, IsFull, along-split, anchor_next, full_along, left_along, left_of, right_along, right_of, value_along}
+use Rattle.price_ascent.proofs.Along.{AreOutside, IsFull, along_split, anchor_next, full_along, left_along, left_of, right_along, right_of, value_along}
 use Rattle.price_ascent.proofs.Changed.{which_side}
 use Rattle.price_ascent.proofs.Ends.{ends_down, ends_up}
-use Rattle.price_ascent.proofs.OnceEach.{AreOffHull, AreOnce, apart, edge_of_side, sides-once}
+use Rattle.price_ascent.proofs.OnceEach.{AreOffHull, AreOnce, apart, edge_of_side, anchored_sides-once}
 
-among_decides : (sides : List (ℕ × ℕ)) (x y : ℕ) → Decides (is_among sides x y) (Contains sides (x, y))
+pub among_decides : (sides : List (ℕ × ℕ)) (x y : ℕ) → Decides (is_among sides x y) (Contains sides (x, y))
 among_decides sides x y =
     let same : (s : ℕ × ℕ) → Decides (is_side x y s) (s ≡ (x, y))
     = λ s. Decides-like _ (λ (e, f). ap (λ z. (z, s.1)) e ∙ ap (λ z. (x, z)) f) (λ e. (ap (λ (p : ℕ × ℕ). p.0) e, ap (λ (p : ℕ × ℕ). p.1) e)) (is_side_decides x y s.0 s.1) in
     Decides-contains sides (x, y) _ (Decides-by_or (is_side x y) (λ s. s ≡ (x, y)) (list_any (is_side x y)) same refl (λ _ _. refl) sides)
 
 -- a price list says of an edge what it has
-abbrev price : Edge → ℤ → ℤ → ℤ → Priced
+abbrev pub price : Edge → ℤ → ℤ → ℤ → Priced
 price e value left right = record { edge = e; value = value; left = left; right = right }
 
-same_price : (e : Edge) (a b c x y z : ℤ) → a ≡ x → b ≡ y → c ≡ z → price e a b c ≡ price e x y z
+pub same_price : (e : Edge) (a b c x y z : ℤ) → a ≡ x → b ≡ y → c ≡ z → price e a b c ≡ price e x y z
 same_price e a b c x y z f g h = cc
 
 -- Anchors are raised from a to b along the sides before, and from b to c along the rest.
@@ -63,9 +63,9 @@ raised_before n live a b c before rest k h has on =
     has
 
 -- the table between is the mixed one
-mixed-between : (n : NetworkParts) (live : List Bool) (a b c : PriceTable) (before rest : List (ℕ × ℕ)) (k : ℕ) → IsBetween n live a b c before rest
+mixed_entry-between : (n : NetworkParts) (live : List Bool) (a b c : PriceTable) (before rest : List (ℕ × ℕ)) (k : ℕ) → IsBetween n live a b c before rest
     → entry_at n b k ≡ mixed_entry n before c a k
-mixed-between n live a b c before rest k h =
+mixed_entry-between n live a b c before rest k h =
     let x = (edge_at n k).a in
     let y = (edge_at n k).b in
     let up = among_decides before x y in
@@ -133,7 +133,7 @@ anchor_along n live sides a b e u v is h out turned = at (is_on_hull n.hull u v)
 raised_between : (n : NetworkParts) (live : List Bool) (a c : PriceTable) (before after : List (ℕ × ℕ)) (u v : ℕ) → IsFull n a → AreOnce n.hull (before ++ (u, v) ∷ after)
     → IsRaisedAlong n live (before ++ (u, v) ∷ after) a c → IsRaised n live a c before u v
 raised_between n live a c before after u v full once h =
-    let (b, first, last) = along-split n live before ((u, v) ∷ after) a c h in
+    let (b, first, last) = along_split n live before ((u, v) ∷ after) a c h in
     let between : IsBetween n live a b c before ((u, v) ∷ after) = record { once = once; first = first; last = last } in
     let r = last.1 in
     let itself = Contains-append_right before ((u, v) ∷ after) (u, v) (contains-here (u, v) after) in
@@ -142,7 +142,7 @@ raised_between n live a c before after u v full once h =
       number = r.number;
       m = r.m;
       least = subst (λ (prices : List Priced). IsLeastSlack n.points n.hull prices u v r.m)
-          (map_same (entry_at n b) (mixed_entry n before c a) (live_numbers live) (λ k. mixed-between n live a b c before ((u, v) ∷ after) k between)) r.least;
+          (map_same (entry_at n b) (mixed_entry n before c a) (live_numbers live) (λ k. mixed_entry-between n live a b c before ((u, v) ∷ after) k between)) r.least;
       anchor = anchor_along n live after last.0 c r.e u v r.number last.2
           (λ later. apart n.hull (before ++ (u, v) ∷ []) after u v (subst (AreOnce n.hull) (sym (append_assoc before ((u, v) ∷ []) after)) once)
           (Contains-append_right before ((u, v) ∷ []) (u, v) (contains-here (u, v) [])) later)
@@ -163,11 +163,11 @@ not_anchored n anchored k u v is none off has =
     (Contains-append_cases (ring_pairs n.hull) (flat_map both_sides anchored) (u, v) has)
 
 -- all sides, one after the other
-pub along-tightens : (n : NetworkParts) (live : List Bool) (anchored : List Edge) (a c : PriceTable) → IsNetwork n → IsFull n a → AllPairs EdgePrecedes anchored → AreOffHull n.hull anchored
+pub along_tightens : (n : NetworkParts) (live : List Bool) (anchored : List Edge) (a c : PriceTable) → IsNetwork n → IsFull n a → AllPairs EdgePrecedes anchored → AreOffHull n.hull anchored
     → IsRaisedAlong n live (anchored_sides n.hull anchored) a c → IsTighten n live anchored a c
-along-tightens n live anchored a c net full up off h =
+along_tightens n live anchored a c net full up off h =
     let sides = anchored_sides n.hull anchored in
-    let once = sides-once n.points n.hull anchored net.hull_is up off in
+    let once = anchored_sides-once n.points n.hull anchored net.hull_is up off in
     record {
       one_each = (full_along n live sides a c h full).values ∙ sym full.values;
       sides = λ before after u v is. raised_between n live a c before after u v full (subst (AreOnce n.hull) is once) (subst (λ (xs : List (ℕ × ℕ)). IsRaisedAlong n live xs a c) is h);

@@ -1,7 +1,6 @@
 -- Each side with an anchor stands once in the list of these sides.
-use Rattle.std.proofs.Common.{◌≡◌, ◌⊎◌, ℕ, ◌+◌, ◌<◌, ◌≤◌, true, List, [], ◌∷◌, ◌++◌, length, get_or, slice_index, flat_map, sum_by, AllPairs, Contains, refl, ap, sym, ◌∙◌, subst, arith, ⊎_elim, inl, inr}
+use Rattle.std.proofs.Common.{◌≡◌, ◌⊎◌, ℕ, ◌+◌, ◌<◌, ◌≤◌, true, List, [], ◌∷◌, ◌++◌, length, slice_index, flat_map, AllPairs, Contains, ap, sym, ◌∙◌, subst, arith, ⊎_elim, inl, inr}
 use Rattle.std.proofs.lemmas.Bool.{cases_Bool, cases_eq, cases_lt, false≢true}
-use Rattle.std.proofs.lemmas.List.{get_or_default}
 use Rattle.std.proofs.lemmas.List.Elements.{All-contains, Contains-append_cases}
 use Rattle.std.proofs.lemmas.List.Sums.{get_or-le-sum_by, sum_by-append, sum_by-cons}
 use Rattle.exact_predicates.specs.declared.edge.Edge.{Edge}
@@ -146,8 +145,8 @@ off_ring hull es u v off has on =
     (cases_lt u v))
 
 -- all sides with an anchor
-pub sides-once : (ps : List Point) (hull : List ℕ) (es : List Edge) → IsHull ps hull → AllPairs EdgePrecedes es → AreOffHull hull es → AreOnce hull (anchored_sides hull es)
-sides-once ps hull es h up off =
+pub anchored_sides-once : (ps : List Point) (hull : List ℕ) (es : List Edge) → IsHull ps hull → AllPairs EdgePrecedes es → AreOffHull hull es → AreOnce hull (anchored_sides hull es)
+anchored_sides-once ps hull es h up off =
     record {
       once = λ u v. let sum = sum_by-append (hit u v) (ring_pairs hull) (flat_map both_sides es) in
           ⊎_elim

@@ -1,30 +1,19 @@
 -- Sides whose anchors are raised one after the other.
-use Rattle.std.proofs.Common.{◌≡◌, ◌≢◌, ℕ, ◌<◌, Bool, true, false, List, [], ◌∷◌, ◌++◌, length, get_or, map, set, ℤ, pos, ◌+ℤ◌, ◌≤ℤ◌, refl, ap, sym, ◌∙◌, subst, arith, ⊎_elim, inl, inr}
-use Rattle.std.proofs.lemmas.Bool.{cases_eq, cond-false, cond-true, le-ltb, lt-ltb}
+use Rattle.std.proofs.Common.{◌≡◌, ℕ, Bool, List, [], ◌∷◌, ◌++◌, map, ℤ, pos, ◌≤ℤ◌, refl, sym, ◌∙◌, subst, arith, ⊎_elim, inl, inr}
 use Rattle.std.proofs.lemmas.Int.{ints}
-use Rattle.std.proofs.lemmas.List.{map-set}
 use Rattle.exact_predicates.specs.declared.tri.Tri.{Tri}
-use Rattle.exact_predicates.specs.Hull.{IsHullPair}
-use Rattle.lmt_network.specs.Network.{NetworkParts, edge_at}
-use Rattle.lmt_network.specs.Numbers.{IsHullNumber, IsNumberOf}
+use Rattle.lmt_network.specs.Network.{NetworkParts}
+use Rattle.lmt_network.specs.Numbers.{IsHullNumber}
 use Rattle.lmt_network.specs.PriceTables.{PriceTable}
-use Rattle.lmt_network.specs.Prices.{is_on_hull, slack}
-use Rattle.lmt_network.proofs.Entries.{is_on_hull-comm, is_on_hull_decides}
+use Rattle.lmt_network.specs.Prices.{slack}
 use Rattle.lmt_network.proofs.Picked.{contains-cases}
 use Rattle.price_ascent.specs.declared.entry.Entry.{Entry}
 use Rattle.price_ascent.specs.Ascent.{IsLeastSlack, IsLiveOn}
 use Rattle.price_ascent.specs.Belonging.{BelongTo}
-use Rattle.price_ascent.specs.Entries.{entry, live_of, no_entry, prices_of, table_of}
-use Rattle.price_ascent.specs.Raised.{AreRaised, IsRaisedAlong, IsRaisedNext, IsSettled, with_more}
-use Rattle.price_ascent.specs.Steps.{IsRaisedEntry, hull_raised, left_raised, right_raised}
-use Rattle.price_ascent.proofs.Changed.{IsChange, hull_of, live_same, new_entry, other_entry, same_field}
-use Rattle.price_ascent.proofs.Kept.{get_or-mapped}
+use Rattle.price_ascent.specs.Entries.{entry, live_of, prices_of, table_of}
+use Rattle.price_ascent.specs.Raised.{AreRaised, IsRaisedAlong, IsRaisedNext, IsSettled}
 use Rattle.price_ascent.proofs.LiveSides.{same_live}
-use Rattle.price_ascent.proofs.Lowering.{inner_off}
-use Rattle.price_ascent.proofs.Raising.{left_rise, right_rise}
-use Rattle.price_ascent.proofs.RaisingHull.{hull_rise}
-use Rattle.price_ascent.proofs.Rises.{AreRisen, risen}
-use Rattle.price_ascent.proofs.SlackBounds.{least_fits}
+use Rattle.price_ascent.proofs.Rises.{AreRisen}
 
 -- One side has been raised.
 pub record IsOneRaised (n : NetworkParts) (fs gs : List Entry) (u v : ℕ) : Type 0 where
@@ -111,6 +100,6 @@ more_raised n es fs gs sides rest u v h r =
     }
 
 -- sides after sides
-pub along-append : (n : NetworkParts) (live : List Bool) (xs ys : List (ℕ × ℕ)) (a b c : PriceTable) → IsRaisedAlong n live xs a b → IsRaisedAlong n live ys b c → IsRaisedAlong n live (xs ++ ys) a c
-along-append n live [] ys a b c h k = subst (λ (t : PriceTable). IsRaisedAlong n live ys t c) h k
-along-append n live (x ∷ xs) ys a b c (next, first, rest) k = (next, first, along-append n live xs ys next b c rest k)
+pub along_append : (n : NetworkParts) (live : List Bool) (xs ys : List (ℕ × ℕ)) (a b c : PriceTable) → IsRaisedAlong n live xs a b → IsRaisedAlong n live ys b c → IsRaisedAlong n live (xs ++ ys) a c
+along_append n live [] ys a b c h k = subst (λ (t : PriceTable). IsRaisedAlong n live ys t c) h k
+along_append n live (x ∷ xs) ys a b c (next, first, rest) k = (next, first, along_append n live xs ys next b c rest k)

@@ -1,29 +1,24 @@
 -- One side raised, of each of the three kinds.
-use Rattle.std.proofs.Common.{◌≡◌, ◌≢◌, ℕ, ◌<◌, Bool, true, false, List, [], ◌∷◌, ◌++◌, length, get_or, map, set, ℤ, pos, ◌+ℤ◌, ◌≤ℤ◌, refl, ap, sym, ◌∙◌, subst, arith, ⊎_elim, inl, inr}
+use Rattle.std.proofs.Common.{◌≡◌, ◌≢◌, ℕ, ◌<◌, true, false, List, length, get_or, map, set, ℤ, pos, ◌+ℤ◌, ◌≤ℤ◌, refl, ap, sym, ◌∙◌, subst, arith, ⊎_elim, inl}
 use Rattle.std.proofs.lemmas.Bool.{cases_eq, cond-false, cond-true, le-ltb, lt-ltb}
 use Rattle.std.proofs.lemmas.Int.{ints}
 use Rattle.std.proofs.lemmas.List.{map-set}
-use Rattle.exact_predicates.specs.declared.tri.Tri.{Tri}
 use Rattle.exact_predicates.specs.Hull.{IsHullPair}
 use Rattle.lmt_network.specs.Network.{NetworkParts, edge_at}
 use Rattle.lmt_network.specs.Numbers.{IsHullNumber, IsNumberOf}
-use Rattle.lmt_network.specs.PriceTables.{PriceTable}
-use Rattle.lmt_network.specs.Prices.{is_on_hull, slack}
+use Rattle.lmt_network.specs.Prices.{is_on_hull}
 use Rattle.lmt_network.proofs.Entries.{is_on_hull-comm, is_on_hull_decides}
-use Rattle.lmt_network.proofs.Picked.{contains-cases}
 use Rattle.price_ascent.specs.declared.entry.Entry.{Entry}
-use Rattle.price_ascent.specs.Ascent.{IsLeastSlack, IsLiveOn}
 use Rattle.price_ascent.specs.Belonging.{BelongTo}
-use Rattle.price_ascent.specs.Entries.{entry, live_of, no_entry, prices_of, table_of}
-use Rattle.price_ascent.specs.Raised.{AreRaised, IsRaisedAlong, IsRaisedNext, IsSettled, with_more}
+use Rattle.price_ascent.specs.Entries.{entry, no_entry, table_of}
+use Rattle.price_ascent.specs.Raised.{with_more}
 use Rattle.price_ascent.specs.Steps.{IsRaisedEntry, hull_raised, left_raised, right_raised}
 use Rattle.price_ascent.proofs.Changed.{IsChange, hull_of, live_same, new_entry, other_entry, same_field}
 use Rattle.price_ascent.proofs.Kept.{get_or-mapped, same_table}
-use Rattle.price_ascent.proofs.LiveSides.{same_live}
 use Rattle.price_ascent.proofs.Lowering.{inner_off}
 use Rattle.price_ascent.proofs.Raising.{left_rise, right_rise}
 use Rattle.price_ascent.proofs.RaisingHull.{hull_rise}
-use Rattle.price_ascent.proofs.Rises.{AreRisen, risen}
+use Rattle.price_ascent.proofs.Rises.{risen}
 use Rattle.price_ascent.proofs.SlackBounds.{least_fits}
 use Rattle.price_ascent.proofs.Raised.{IsOneRaised}
 
@@ -56,9 +51,9 @@ anchored-kept fs gs e x gs_is is =
     ap (map (λ p. p.anchored)) gs_is ∙ same_field (λ p. p.anchored) fs e x false (get_or-mapped (λ (p : Entry). p.anchored) fs e no_entry ∙ sym is)
 
 -- a raised left side
-pub left-raised : (n : NetworkParts) (fs gs : List Entry) (e : ℕ) → BelongTo n fs → BelongTo n gs → e < length n.edges → (entry fs e).anchored ≡ true
+pub left_raised-one : (n : NetworkParts) (fs gs : List Entry) (e : ℕ) → BelongTo n fs → BelongTo n gs → e < length n.edges → (entry fs e).anchored ≡ true
     → IsRaisedEntry n fs gs e (edge_at n e).a (edge_at n e).b left_raised → IsOneRaised n fs gs (edge_at n e).a (edge_at n e).b
-left-raised n fs gs e b after e_in anchored r =
+left_raised-one n fs gs e b after e_in anchored r =
     let p = entry fs e in
     let x = left_raised p r.m in
     let inner = (b.each e e_in).inner anchored in
@@ -89,9 +84,9 @@ left-raised n fs gs e b after e_in anchored r =
     }
 
 -- a raised right side
-pub right-raised : (n : NetworkParts) (fs gs : List Entry) (e : ℕ) → BelongTo n fs → BelongTo n gs → e < length n.edges → (entry fs e).anchored ≡ true
+pub right_raised-one : (n : NetworkParts) (fs gs : List Entry) (e : ℕ) → BelongTo n fs → BelongTo n gs → e < length n.edges → (entry fs e).anchored ≡ true
     → IsRaisedEntry n fs gs e (edge_at n e).b (edge_at n e).a right_raised → IsOneRaised n fs gs (edge_at n e).b (edge_at n e).a
-right-raised n fs gs e b after e_in anchored r =
+right_raised-one n fs gs e b after e_in anchored r =
     let p = entry fs e in
     let x = right_raised p r.m in
     let inner = (b.each e e_in).inner anchored in
@@ -124,9 +119,9 @@ right-raised n fs gs e b after e_in anchored r =
     }
 
 -- a raised pair of the hull
-pub hull-raised : (n : NetworkParts) (fs gs : List Entry) (e u v : ℕ) → BelongTo n fs → BelongTo n gs → IsNumberOf n u v e → IsHullPair n.hull u v
+pub hull_raised-one : (n : NetworkParts) (fs gs : List Entry) (e u v : ℕ) → BelongTo n fs → BelongTo n gs → IsNumberOf n u v e → IsHullPair n.hull u v
     → IsRaisedEntry n fs gs e u v hull_raised → IsOneRaised n fs gs u v
-hull-raised n fs gs e u v b after is pair r =
+hull_raised-one n fs gs e u v b after is pair r =
     let p = entry fs e in
     let x = hull_raised p r.m in
     let hull = hull_of n e u v is pair in

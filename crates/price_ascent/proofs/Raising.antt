@@ -1,29 +1,26 @@
 -- Anchors of inner edges, raised.
-use Rattle.std.proofs.Common.{◌≡◌, ℕ, ◌*◌, ◌^◌, true, List, ℤ, pos, ◌+ℤ◌, ◌-ℤ◌, ◌≤ℤ◌, ap, sym, ◌∙◌, subst, arith, ⊎_elim}
+use Rattle.std.proofs.Common.{◌≡◌, ℕ, true, List, ℤ, ap, sym, ◌∙◌, arith}
 use Rattle.std.proofs.lemmas.Bool.{false≢true}
 use Rattle.std.proofs.lemmas.Int.{ints}
-use Rattle.exact_predicates.specs.Hull.{IsHullPair}
 use Rattle.exact_predicates.proofs.Equalities.{Joins-comm, Joins-ends}
 use Rattle.lmt_network.specs.Network.{NetworkParts, edge_at}
-use Rattle.lmt_network.specs.Numbers.{HasSide, IsHullNumber, IsNumberOf}
+use Rattle.lmt_network.specs.Numbers.{IsHullNumber}
 use Rattle.lmt_network.specs.Prices.{share}
-use Rattle.lmt_network.proofs.Entries.{is_on_hull_decides}
 use Rattle.price_ascent.specs.declared.entry.Entry.{Entry}
 use Rattle.price_ascent.specs.Ascent.{IsLeastSlack}
-use Rattle.price_ascent.specs.Belonging.{BelongTo, IsBareSide}
+use Rattle.price_ascent.specs.Belonging.{BelongTo}
 use Rattle.price_ascent.specs.Entries.{entry, prices_of}
-use Rattle.price_ascent.specs.Steps.{hull_raised, left_raised, right_raised}
-use Rattle.price_ascent.proofs.Changed.{IsChange, bare_back, belong_changed, hull_of, new_entry, one-each, which_side}
-use Rattle.price_ascent.proofs.LiveSides.{none_outside}
+use Rattle.price_ascent.specs.Steps.{left_raised, right_raised}
+use Rattle.price_ascent.proofs.Changed.{IsChange, bare_back, belong_changed, new_entry, changed_length}
 use Rattle.price_ascent.proofs.Lowering.{inner_off}
-use Rattle.price_ascent.proofs.Rises.{IsRise, anchor_fits, anchor_fits_up, bare_least, risen, same_or_turned}
-use Rattle.price_ascent.proofs.Shares.{HasShares, has_shares, on_hull, own_shares}
+use Rattle.price_ascent.proofs.Rises.{IsRise, anchor_fits, anchor_fits_up, bare_least, risen}
+use Rattle.price_ascent.proofs.Shares.{HasShares, has_shares, own_shares}
 
 -- the shares of the new entry
 pub new_shares : (n : NetworkParts) (es fs : List Entry) (e : ℕ) (x : Entry) → IsChange n es fs e x → (entry es e).live ≡ true
     → HasShares n fs e (share n.points n.hull (prices_of n fs) (edge_at n e).a (edge_at n e).b) (share n.points n.hull (prices_of n fs) (edge_at n e).b (edge_at n e).a)
 new_shares n es fs e x c live =
-    has_shares n fs e c.belong.network (one-each n es fs e x c) c.e_in (ap (λ (p : Entry). p.live) (new_entry n es fs e x c) ∙ (c.live ∙ live))
+    has_shares n fs e c.belong.network (changed_length n es fs e x c) c.e_in (ap (λ (p : Entry). p.live) (new_entry n es fs e x c) ∙ (c.live ∙ live))
 
 -- the shares of both sides after a raise
 abbrev pub AreNewShares : NetworkParts → List Entry → ℕ → Entry → Type 0

@@ -3,7 +3,6 @@ use Rattle.std.proofs.Common.{◌≡◌, ℕ, ◌*◌, ◌^◌, true, List, ℤ,
 use Rattle.std.proofs.lemmas.Bool.{false≢true}
 use Rattle.std.proofs.lemmas.Int.{ints}
 use Rattle.exact_predicates.specs.Hull.{IsHullPair}
-use Rattle.exact_predicates.proofs.Equalities.{Joins-comm, Joins-ends}
 use Rattle.lmt_network.specs.Network.{NetworkParts, edge_at}
 use Rattle.lmt_network.specs.Numbers.{HasSide, IsHullNumber, IsNumberOf}
 use Rattle.lmt_network.specs.Prices.{share}
@@ -12,12 +11,11 @@ use Rattle.price_ascent.specs.declared.entry.Entry.{Entry}
 use Rattle.price_ascent.specs.Ascent.{IsLeastSlack}
 use Rattle.price_ascent.specs.Belonging.{BelongTo, IsBareSide}
 use Rattle.price_ascent.specs.Entries.{entry, prices_of}
-use Rattle.price_ascent.specs.Steps.{hull_raised, left_raised, right_raised}
-use Rattle.price_ascent.proofs.Changed.{IsChange, bare_back, belong_changed, hull_of, new_entry, one-each, which_side}
+use Rattle.price_ascent.specs.Steps.{hull_raised}
+use Rattle.price_ascent.proofs.Changed.{IsChange, bare_back, belong_changed, hull_of, new_entry, which_side}
 use Rattle.price_ascent.proofs.LiveSides.{none_outside}
-use Rattle.price_ascent.proofs.Lowering.{inner_off}
-use Rattle.price_ascent.proofs.Rises.{IsRise, anchor_fits, anchor_fits_up, bare_least, risen, same_or_turned}
-use Rattle.price_ascent.proofs.Shares.{HasShares, has_shares, on_hull, own_shares}
+use Rattle.price_ascent.proofs.Rises.{IsRise, anchor_fits, bare_least, risen, same_or_turned}
+use Rattle.price_ascent.proofs.Shares.{on_hull, own_shares}
 use Rattle.price_ascent.proofs.Raising.{AreNewShares, new_shares}
 
 pub hull_on : (n : NetworkParts) (e : ℕ) → IsHullNumber n e → on_hull n e ≡ true

@@ -21,9 +21,9 @@ pub no_pair : (hull : List ℕ) (i : ℕ) → length hull ≤ i → drop i (ring
 no_pair hull i past = drop_all i (ring_pairs hull) (let many = length-ring hull in omega arith)
 
 -- the sides of inner edges from an edge on
-sides-at : (n : NetworkParts) (es : List Entry) (e : ℕ) (b : Bool) → length es ≡ length n.edges → e < length n.edges → (entry es e).anchored ≡ b
+sides_from-at : (n : NetworkParts) (es : List Entry) (e : ℕ) (b : Bool) → length es ≡ length n.edges → e < length n.edges → (entry es e).anchored ≡ b
     → sides_from n es e ≡ flat_map both_sides (items_where_true (b ∷ drop (e + 1) (map (λ p. p.anchored) es)) (edge_at n e ∷ drop (e + 1) n.edges))
-sides-at n es e b one_each e_in is =
+sides_from-at n es e b one_each e_in is =
     let flags = map (λ (p : Entry). p.anchored) es in
     let many : length flags ≡ length es = length-map es (λ (p : Entry). p.anchored) in
     let flag : drop e flags ≡ b ∷ drop (e + 1) flags
@@ -31,15 +31,15 @@ sides-at n es e b one_each e_in is =
     ap (λ bs. flat_map both_sides (items_where_true bs (drop e n.edges))) flag
     ∙ ap (λ xs. flat_map both_sides (items_where_true (b ∷ drop (e + 1) flags) xs)) (drop_more n.edges e _ e_in)
 
-pub sides-more : (n : NetworkParts) (es : List Entry) (e : ℕ) → length es ≡ length n.edges → e < length n.edges → (entry es e).anchored ≡ true
+pub sides_from-more : (n : NetworkParts) (es : List Entry) (e : ℕ) → length es ≡ length n.edges → e < length n.edges → (entry es e).anchored ≡ true
     → sides_from n es e ≡ ((edge_at n e).a, (edge_at n e).b) ∷ ((edge_at n e).b, (edge_at n e).a) ∷ sides_from n es (e + 1)
-sides-more n es e one_each e_in is = sides-at n es e true one_each e_in is
+sides_from-more n es e one_each e_in is = sides_from-at n es e true one_each e_in is
 
-pub sides-skip : (n : NetworkParts) (es : List Entry) (e : ℕ) → length es ≡ length n.edges → e < length n.edges → (entry es e).anchored ≡ false → sides_from n es e ≡ sides_from n es (e + 1)
-sides-skip n es e one_each e_in is = sides-at n es e false one_each e_in is
+pub sides_from-skip : (n : NetworkParts) (es : List Entry) (e : ℕ) → length es ≡ length n.edges → e < length n.edges → (entry es e).anchored ≡ false → sides_from n es e ≡ sides_from n es (e + 1)
+sides_from-skip n es e one_each e_in is = sides_from-at n es e false one_each e_in is
 
-pub sides-none : (n : NetworkParts) (es : List Entry) (e : ℕ) → length n.edges ≤ e → sides_from n es e ≡ []
-sides-none n es e past =
+pub sides_from-none : (n : NetworkParts) (es : List Entry) (e : ℕ) → length n.edges ≤ e → sides_from n es e ≡ []
+sides_from-none n es e past =
     ap (λ xs. flat_map both_sides (items_where_true (drop e (map (λ p. p.anchored) es)) xs)) (drop_all e n.edges past) ∙ nothing (drop e (map (λ p. p.anchored) es))
   where
     nothing : (bs : List Bool) → flat_map both_sides (items_where_true bs []) ≡ []

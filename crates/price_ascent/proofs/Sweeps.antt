@@ -9,7 +9,7 @@ use Rattle.lmt_network.specs.Network.{NetworkParts, edge_at}
 use Rattle.lmt_network.specs.Numbers.{IsHullNumber}
 use Rattle.lmt_network.specs.PriceTables.{PriceTable, table_prices}
 use Rattle.price_ascent.specs.declared.entry.Entry.{Entry}
-use Rattle.price_ascent.specs.Ascent.{IsInner, IsLeastSlack, IsSweep, IsSwept, lowest, mixed, value_at}
+use Rattle.price_ascent.specs.Ascent.{IsInner, IsLeastSlack, IsSweep, IsSwept, lowest, mixed}
 use Rattle.price_ascent.specs.Belonging.{BelongTo}
 use Rattle.price_ascent.specs.Entries.{entry, live_of, no_entry, table_of}
 use Rattle.price_ascent.specs.Steps.{IsLowered, lowered}

@@ -19,9 +19,9 @@ use Rattle.price_ascent.proofs.Along.{IsFull}
 use Rattle.price_ascent.proofs.Changed.{hull_of}
 use Rattle.price_ascent.proofs.Ends.{hull_number_there}
 use Rattle.price_ascent.proofs.Kept.{get_or-mapped, priced-kept}
-use Rattle.price_ascent.proofs.Mixing.{along-tightens}
+use Rattle.price_ascent.proofs.Mixing.{along_tightens}
 use Rattle.price_ascent.proofs.OnceEach.{AreOffHull}
-use Rattle.price_ascent.proofs.Raised.{along-append}
+use Rattle.price_ascent.proofs.Raised.{along_append}
 
 -- all sides of the hull, and then all inner ones
 pub record AreTightened (n : NetworkParts) (es fs gs : List Entry) : Type 0 where
@@ -56,9 +56,9 @@ tightened n es fs gs r =
     let first = r.hull.along (table_of fs) refl in
     let second = r.inner.along (table_of gs) refl in
     let same : anchored_edges n fs ≡ anchored_edges n es = ap (live_edges n) r.hull.anchored in
-    along-tightens n (live_of es) (anchored_edges n es) (table_of es) (table_of gs) r.belong.network (full_table n es r.belong)
+    along_tightens n (live_of es) (anchored_edges n es) (table_of es) (table_of gs) r.belong.network (full_table n es r.belong)
     (AllPairs-picked EdgePrecedes (map (λ p. p.anchored) es) n.edges r.belong.network.ascending) (off_hull n es r.belong)
-    (along-append n (live_of es) (ring_pairs n.hull) (flat_map both_sides (anchored_edges n es)) (table_of es) (table_of fs) (table_of gs) first
+    (along_append n (live_of es) (ring_pairs n.hull) (flat_map both_sides (anchored_edges n es)) (table_of es) (table_of fs) (table_of gs) first
     (subst (λ (xs : List Edge). IsRaisedAlong n (live_of es) (flat_map both_sides xs) (table_of fs) (table_of gs)) same
     (subst (λ (bs : List Bool). IsRaisedAlong n bs (flat_map both_sides (anchored_edges n fs)) (table_of fs) (table_of gs)) r.hull.live second)))
 
@@ -69,7 +69,7 @@ tight_side n es u v y (inl (t, on, zero)) bare = inl (t, on.0, on.1, zero)
 tight_side n es u v y (inr none) bare = inr (λ t side over. none t (side, over), bare none)
 
 -- the sides of an edge are among those of all
-left_among : (xs : List Edge) (e : Edge) → Contains xs e → Contains (flat_map both_sides xs) (e.a, e.b)
+pub left_among : (xs : List Edge) (e : Edge) → Contains xs e → Contains (flat_map both_sides xs) (e.a, e.b)
 left_among [] e h = absurd (contains-nil e h)
 left_among (x ∷ xs) e h =
     let rest = flat_map both_sides xs in
@@ -78,7 +78,7 @@ left_among (x ∷ xs) e h =
     (λ (later : Contains xs e). contains-later (x.a, x.b) (e.a, e.b) ((x.b, x.a) ∷ rest) (contains-later (x.b, x.a) (e.a, e.b) rest (left_among xs e later)))
     (contains-cases x e xs h)
 
-right_among : (xs : List Edge) (e : Edge) → Contains xs e → Contains (flat_map both_sides xs) (e.b, e.a)
+pub right_among : (xs : List Edge) (e : Edge) → Contains xs e → Contains (flat_map both_sides xs) (e.b, e.a)
 right_among [] e h = absurd (contains-nil e h)
 right_among (x ∷ xs) e h =
     let rest = flat_map both_sides xs in

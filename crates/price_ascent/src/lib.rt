@@ -5,6 +5,7 @@
 mod ascent;
 mod bound;
 mod entry;
+mod law;
 mod number;
 mod prices;
 mod raise;
@@ -13,4 +14,5 @@ mod start;
 mod sweep;
 mod tighten;
 
+pub use law::ascent_law;
 pub use prices::Prices;

@@ -6,7 +6,7 @@ use Rattle.exact_predicates.specs.declared.edge.Edge.{Edge}
 use Rattle.lmt_network.specs.Flags.{live_edges}
 use Rattle.price_ascent.specs.declared.entry.Entry.{Entry}
 use Rattle.price_ascent.specs.Entries.{live_of}
-use Rattle.price_ascent.proofs.Anchoring.{AreAnchored, anchored-back, anchored-forth, hull_passed, live_edge, live_number_of, more_anchored}
+use Rattle.price_ascent.proofs.Anchoring.{AreAnchored, anchored-back, anchored-forth, hull_passed, live_edge, live_number_of, more_anchored, none_anchored}
 use Rattle.price_ascent.proofs.prices.Prices.anchor_all.Goals as goal
 use Rattle.price_ascent.proofs.prices.Prices.anchor_all.Goals.{then-not-is_hull, else-not-is_hull}
 
@@ -30,6 +30,9 @@ anchor-requires-clause-live c =
     let has = is-live (live_edges n (live_of es)) c.as_slice-edge-items.result.now c.args.skeleton.now c.loop-edge.edge-index c.edge-item.result c.requires.skeleton c.as_slice-edge-items.ensures.is c.loop-edge-test.true c.edge-item.is in
     live_number_of n fs c.edge-item.result c.number-e.result c.loop-edge.invariant.belong
     (subst (λ (zs : List Edge). Contains zs c.edge-item.result) (sym (ap (live_edges n) c.loop-edge.invariant.live)) has) c.number-e.ensures
+
+pub loop-edge-init : goal.loop-edge-init
+loop-edge-init c = none_anchored c.args.net.now c.args.self.now c.requires.belong c.requires.none_yet
 
 pub loop-edge-preserved : goal.loop-edge-preserved
 loop-edge-preserved c =

@@ -12,10 +12,10 @@ use Rattle.price_ascent.proofs.prices.Prices.slack_of.Goals as goal
 use Rattle.price_ascent.proofs.prices.Prices.slack_of.Goals.{then-tri, else-tri}
 
 -- the sum of three shares, counted in 64 bits
-three-shares : (a b d : ℤ) (bits : ℕ) → to_z w64 bits ≡ b → neg_ℤ (pos (2 * 10 ^ 18)) ≤ℤ a → a ≤ℤ pos (403 * 10 ^ 15) → neg_ℤ (pos (2 * 10 ^ 18)) ≤ℤ b → b ≤ℤ pos (403 * 10 ^ 15)
+three_shares : (a b d : ℤ) (bits : ℕ) → to_z w64 bits ≡ b → neg_ℤ (pos (2 * 10 ^ 18)) ≤ℤ a → a ≤ℤ pos (403 * 10 ^ 15) → neg_ℤ (pos (2 * 10 ^ 18)) ≤ℤ b → b ≤ℤ pos (403 * 10 ^ 15)
     → neg_ℤ (pos (2 * 10 ^ 18)) ≤ℤ d → d ≤ℤ pos (403 * 10 ^ 15)
     → to_z w64 (of_z w64 (to_z w64 (of_z w64 (to_z w64 (of_z w64 a) +ℤ to_z w64 bits)) +ℤ to_z w64 (of_z w64 d))) ≡ a +ℤ (b +ℤ d)
-three-shares a b d bits is a_low a_high b_low b_high d_low d_high =
+three_shares a b d bits is a_low a_high b_low b_high d_low d_high =
     let two : to_z w64 (of_z w64 (to_z w64 (of_z w64 a) +ℤ to_z w64 bits)) ≡ a +ℤ b = omega (arith, ints, is, a_low, a_high, b_low, b_high) in
     omega (arith, ints, two, a_low, a_high, b_low, b_high, d_low, d_high)
 
@@ -63,12 +63,12 @@ returns c =
       | then-tri w ↦
           let l : x.b < x.c = let h = w.if-tri.true in omega (arith, h, b_is, c_is) in
           let second : cond (nat_lt x.b x.c) j.up j.down ≡ c.at-bc.result.up = cond-true (nat_lt x.b x.c) _ _ (lt-ltb x.b x.c l) ∙ sym up in
-          let all = three-shares c.at.result.up c.at-bc.result.up c.at-2.result.down c.if-tri.second-bits (omega (arith, ints, w.second-is, c.if-tri.second-is)) fit.up_low fit.up_high fit_j.up_low fit_j.up_high fit_k.down_low (let h = fit_k.down_high in omega (arith, ints, h)) in
+          let all = three_shares c.at.result.up c.at-bc.result.up c.at-2.result.down c.if-tri.second-bits (omega (arith, ints, w.second-is, c.if-tri.second-is)) fit.up_low fit.up_high fit_j.up_low fit_j.up_high fit_k.down_low (let h = fit_k.down_high in omega (arith, ints, h)) in
           all ∙ sym (is ∙ (ap (λ z. z +ℤ (cond (nat_lt x.b x.c) j.up j.down +ℤ (entry es (get_or xs 2 0)).down)) (sym first) ∙ (ap (λ z. c.at.result.up +ℤ (z +ℤ (entry es (get_or xs 2 0)).down)) second ∙ ap (λ z. c.at.result.up +ℤ (c.at-bc.result.up +ℤ z)) (sym third))))
       | else-tri w ↦
           let l : x.c ≤ x.b = let h = w.if-tri.false in omega (arith, h, b_is, c_is) in
           let second : cond (nat_lt x.b x.c) j.up j.down ≡ c.at-bc.result.down = cond-false (nat_lt x.b x.c) _ _ (le-ltb x.b x.c l) ∙ sym down in
           let high : c.at-bc.result.down ≤ℤ pos (403 * 10 ^ 15) = let h = fit_j.down_high in omega (arith, ints, h) in
-          let all = three-shares c.at.result.up c.at-bc.result.down c.at-2.result.down c.if-tri.second-bits (omega (arith, ints, w.second-is, c.if-tri.second-is)) fit.up_low fit.up_high fit_j.down_low high fit_k.down_low (let h = fit_k.down_high in omega (arith, ints, h)) in
+          let all = three_shares c.at.result.up c.at-bc.result.down c.at-2.result.down c.if-tri.second-bits (omega (arith, ints, w.second-is, c.if-tri.second-is)) fit.up_low fit.up_high fit_j.down_low high fit_k.down_low (let h = fit_k.down_high in omega (arith, ints, h)) in
           all ∙ sym (is ∙ (ap (λ z. z +ℤ (cond (nat_lt x.b x.c) j.up j.down +ℤ (entry es (get_or xs 2 0)).down)) (sym first) ∙ (ap (λ z. c.at.result.up +ℤ (z +ℤ (entry es (get_or xs 2 0)).down)) second ∙ ap (λ z. c.at.result.up +ℤ (c.at-bc.result.down +ℤ z)) (sym third))))
     ]

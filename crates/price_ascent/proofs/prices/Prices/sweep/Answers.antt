@@ -3,9 +3,12 @@ use Rattle.std.proofs.lemmas.Bool.{false≢true}
 use Rattle.std.proofs.lemmas.Int.{ints}
 use Rattle.price_ascent.specs.declared.entry.Entry.{Entry}
 use Rattle.price_ascent.proofs.Kept.{value_is}
-use Rattle.price_ascent.proofs.Sweeps.{AreSwept, all_swept, more_swept, skipped}
+use Rattle.price_ascent.proofs.Sweeps.{AreSwept, all_swept, more_swept, none_swept, skipped}
 use Rattle.price_ascent.proofs.prices.Prices.sweep.Goals as goal
 use Rattle.price_ascent.proofs.prices.Prices.sweep.Goals.{then-live+then-not-is_hull, else-live, else-live-via-then-live+else-not-is_hull, else-live-via-else-live}
+
+pub loop-e-init : goal.loop-e-init
+loop-e-init c = none_swept c.args.net.now c.args.self.now c.requires.belong
 
 pub loop-e-preserved : goal.loop-e-preserved
 loop-e-preserved c =

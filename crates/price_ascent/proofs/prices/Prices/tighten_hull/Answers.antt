@@ -2,8 +2,8 @@ use Rattle.std.proofs.Common.{◌≡◌, ◌≤◌, ◌+◌, ℕ, List, ◌∷�
 use Rattle.exact_predicates.specs.Hull.{IsHullPair, ring_pairs}
 use Rattle.exact_predicates.proofs.Rings.{IsNext, pair_of_place}
 use Rattle.price_ascent.specs.Raised.{AreRaised}
-use Rattle.price_ascent.proofs.Raised.{more_raised}
-use Rattle.price_ascent.proofs.RaisedSides.{hull-raised}
+use Rattle.price_ascent.proofs.Raised.{more_raised, none_raised}
+use Rattle.price_ascent.proofs.RaisedSides.{hull_raised-one}
 use Rattle.price_ascent.proofs.Sides.{next_pair, no_pair}
 use Rattle.price_ascent.proofs.prices.Prices.tighten_hull.Goals as goal
 use Rattle.price_ascent.proofs.prices.Prices.tighten_hull.Goals.{then-i-hull, else-i-hull}
@@ -18,6 +18,9 @@ raise_hull-requires-clause-pair c =
     ] in
     subst (λ (xs : List ℕ). IsHullPair xs (slice_index h i) c.if-i-hull.next) c.hull-hull.ensures.value
     (pair_of_place h (slice_index h i) c.if-i-hull.next i c.loop-i-test.true refl next)
+
+pub loop-i-init : goal.loop-i-init
+loop-i-init c = none_raised c.args.net.now c.args.self.now (ring_pairs c.args.net.now.hull) c.requires.belong
 
 pub loop-i-preserved : goal.loop-i-preserved
 loop-i-preserved c =
@@ -36,7 +39,7 @@ loop-i-preserved c =
     let r = c.raise_hull.ensures.raised in
     more_raised n c.args.self.now c.loop-i.self c.raise_hull.new.self sides (drop (i + 1) sides) u v
     (subst (λ (xs : List (ℕ × ℕ)). AreRaised n c.args.self.now c.loop-i.self sides xs) rest c.loop-i.invariant)
-    (hull-raised n c.loop-i.self c.raise_hull.new.self r.0 u v c.loop-i.invariant.belong c.raise_hull.ensures.belong r.1 pair r.2)
+    (hull_raised-one n c.loop-i.self c.raise_hull.new.self r.0 u v c.loop-i.invariant.belong c.raise_hull.ensures.belong r.1 pair r.2)
 
 pub returns : goal.returns
 returns c =

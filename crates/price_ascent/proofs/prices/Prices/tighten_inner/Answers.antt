@@ -5,8 +5,8 @@ use Rattle.price_ascent.specs.Ascent.{both_sides}
 use Rattle.price_ascent.specs.Entries.{anchored_edges, entry}
 use Rattle.price_ascent.specs.Raised.{AreRaised, sides_from}
 use Rattle.price_ascent.proofs.Raised.{more_raised}
-use Rattle.price_ascent.proofs.RaisedSides.{left-raised, right-raised}
-use Rattle.price_ascent.proofs.Sides.{anchored-at, sides-more, sides-none, sides-skip}
+use Rattle.price_ascent.proofs.RaisedSides.{left_raised-one, right_raised-one}
+use Rattle.price_ascent.proofs.Sides.{anchored-at, sides_from-more, sides_from-none, sides_from-skip}
 use Rattle.price_ascent.proofs.prices.Prices.tighten_inner.Goals as goal
 use Rattle.price_ascent.proofs.prices.Prices.tighten_inner.Goals.{then-at, else-at}
 
@@ -29,20 +29,20 @@ loop-e-preserved c =
           let flag : (entry fs e).anchored ≡ true = sym is ∙ w.if-at.true in
           let flag_es : (entry es e).anchored ≡ true = sym (anchored-at fs es e c.loop-e.invariant.anchored) ∙ flag in
           let one = more_raised n es fs gs sides ((b, a) ∷ sides_from n es (e + 1)) a b
-          (subst (λ (xs : List (ℕ × ℕ)). AreRaised n es fs sides xs) (sides-more n es e one_each e_in flag_es) c.loop-e.invariant)
-          (left-raised n fs gs e c.loop-e.invariant.belong w.raise_left.ensures.belong e_in flag w.raise_left.ensures.raised) in
+          (subst (λ (xs : List (ℕ × ℕ)). AreRaised n es fs sides xs) (sides_from-more n es e one_each e_in flag_es) c.loop-e.invariant)
+          (left_raised-one n fs gs e c.loop-e.invariant.belong w.raise_left.ensures.belong e_in flag w.raise_left.ensures.raised) in
           let flag_gs : (entry gs e).anchored ≡ true = anchored-at gs es e one.anchored ∙ flag_es in
           let two = more_raised n es gs hs sides (sides_from n es (e + 1)) b a one
-          (right-raised n gs hs e one.belong w.raise_right.ensures.belong e_in flag_gs w.raise_right.ensures.raised) in
+          (right_raised-one n gs hs e one.belong w.raise_right.ensures.belong e_in flag_gs w.raise_right.ensures.raised) in
           subst (λ (xs : List Entry). AreRaised n es xs sides (sides_from n es (e + 1))) (sym w.self-is) two
       | else-at w ↦
           let flag_es = sym (anchored-at fs es e c.loop-e.invariant.anchored) ∙ (sym is ∙ w.if-at.false) in
           subst (λ (xs : List Entry). AreRaised n es xs sides (sides_from n es (e + 1))) (sym w.self-is)
-          (subst (λ (xs : List (ℕ × ℕ)). AreRaised n es fs sides xs) (sides-skip n es e one_each e_in flag_es) c.loop-e.invariant)
+          (subst (λ (xs : List (ℕ × ℕ)). AreRaised n es fs sides xs) (sides_from-skip n es e one_each e_in flag_es) c.loop-e.invariant)
     ]
 
 pub returns : goal.returns
 returns c =
     let n = c.args.net.now in
     let past : length n.edges ≤ c.loop-e.e = let l = c.loop-e-test.false in let is = c.edges-e-end.ensures.value in omega (arith, l, is) in
-    subst (λ (xs : List (ℕ × ℕ)). AreRaised n c.args.self.now c.loop-e.self (flat_map both_sides (anchored_edges n c.args.self.now)) xs) (sides-none n c.args.self.now c.loop-e.e past) c.loop-e.invariant
+    subst (λ (xs : List (ℕ × ℕ)). AreRaised n c.args.self.now c.loop-e.self (flat_map both_sides (anchored_edges n c.args.self.now)) xs) (sides_from-none n c.args.self.now c.loop-e.e past) c.loop-e.invariant
