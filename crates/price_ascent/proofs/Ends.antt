@@ -6,7 +6,7 @@ use Rattle.exact_predicates.specs.declared.edge.Edge.{Edge}
 use Rattle.exact_predicates.specs.declared.point.Point.{Point}
 use Rattle.exact_predicates.specs.Candidates.{Joins}
 use Rattle.exact_predicates.specs.Hull.{IsHull, IsHullPair}
-use Rattle.exact_predicates.proofs.Rings.{place_of_pair}
+use Rattle.exact_predicates.proofs.Rings.{pair_ends}
 use Rattle.lmt_network.specs.Network.{IsNetwork, NetworkParts, edge_at}
 use Rattle.lmt_network.specs.Numbers.{IsNumberOf}
 use Rattle.lmt_network.proofs.FlipMinimal.{edge_between, hull_edge}
@@ -19,26 +19,16 @@ ends_up n e u v is l = let low = is.1.0 in let high = is.1.1 in (omega arith, om
 pub ends_down : (n : NetworkParts) (e u v : ℕ) → IsNumberOf n u v e → v ≤ u → ((edge_at n e).b ≡ u) × ((edge_at n e).a ≡ v)
 ends_down n e u v is l = let low = is.1.0 in let high = is.1.1 in (omega arith, omega arith)
 
--- the two members of a pair of the hull are two points
-pub hull_apart : (ps : List Point) (hull : List ℕ) (u v : ℕ) → IsHull ps hull → IsHullPair hull u v → u ≢ v
-hull_apart ps hull u v hull_is p same =
-    let (k, k_in, at_k, next) = place_of_pair hull u v p in
-    let three = hull_is.three in
-    ⊎_elim
-    (λ n. hull_is.distinct k (k + 1) 0 (omega arith) n.0 (at_k ∙ (same ∙ sym n.1)))
-    (λ n. hull_is.distinct 0 k 0 (omega (arith, n.0)) k_in (n.1 ∙ (sym same ∙ sym at_k)))
-    next
-
--- and have an edge of the network
+-- the two members of a pair of the hull have an edge of the network
 pub hull_number_there : (n : NetworkParts) (u v : ℕ) → IsNetwork n → IsHullPair n.hull u v → (e : ℕ) × IsNumberOf n u v e
 hull_number_there n u v net pair =
-    let e = edge_between u v (hull_apart n.points n.hull u v net.hull_is pair) in
+    let e = edge_between u v (pair_ends n.points n.hull u v net.hull_is pair).2 in
     let k = net.hull_edges e.0 (hull_edge n.hull e.0 u v e.1 pair) in
     (k.0, (k.1, subst (λ (x : Edge). Joins x u v) (sym (read_member n.edges e.0 _ k)) e.1))
 
 pub hull_order : (n : NetworkParts) (u v : ℕ) → IsNetwork n → IsHullPair n.hull u v → (u < v) ⊎ (v < u)
 hull_order n u v net pair =
-    let apart = hull_apart n.points n.hull u v net.hull_is pair in
+    let apart = (pair_ends n.points n.hull u v net.hull_is pair).2 in
     ⊎_elim (λ l. inl l) (λ l. inr (omega arith)) (cases_lt u v)
 
 -- a least slack as it is written

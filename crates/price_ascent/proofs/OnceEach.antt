@@ -11,13 +11,13 @@ use Rattle.exact_predicates.specs.Triangulation.{hit}
 use Rattle.exact_predicates.proofs.Equalities.{Joins-comm, Joins-ends, Joins-only}
 use Rattle.exact_predicates.proofs.HullPairs.{pair_none, pair_once}
 use Rattle.exact_predicates.proofs.ListFacts.{AllPairs-head, AllPairs-tail}
-use Rattle.exact_predicates.proofs.Pairs.{hit_none, hit_same, is_pair_decides}
+use Rattle.exact_predicates.proofs.ListOrder.{EdgePrecedes-irreflexive}
+use Rattle.exact_predicates.proofs.Pairs.{hit_none, hit_same, pair_or_not}
 use Rattle.exact_predicates.proofs.Rings.{IsNext, place_of_pair}
+use Rattle.exact_predicates.proofs.SidesCounted.{count}
 use Rattle.lmt_network.specs.Live.{IsHullEdge}
 use Rattle.lmt_network.specs.Prices.{is_on_hull}
-use Rattle.lmt_network.proofs.CountedSums.{count}
 use Rattle.lmt_network.proofs.Entries.{is_on_hull_decides}
-use Rattle.lmt_network.proofs.Naming.{EdgePrecedes-irreflexive}
 use Rattle.lmt_network.proofs.Picked.{contains-cases, contains-here, contains-later, contains-nil}
 use Rattle.price_ascent.specs.Ascent.{anchored_sides, both_sides}
 
@@ -157,7 +157,7 @@ anchored_sides-once ps hull es h up off =
           (λ (some : 1 ≤ count (flat_map both_sides es) u v). absurd (off_ring hull es u v off (counted (flat_map both_sides es) u v some) (inl yes)))
           (cases_lt (count (flat_map both_sides es) u v) 1))
           (λ (no : ¬ IsHullPair hull u v). omega (arith, sum, pair_none hull u v no, inner_once es u v up))
-          (pair_or_not u v);
+          (pair_or_not hull u v);
       one_way = λ u v on has back. ⊎_elim
           (λ (there : IsHullPair hull u v). ⊎_elim
           (λ (turned : IsHullPair hull v u). one_direction ps hull u v h there turned)
@@ -166,7 +166,3 @@ anchored_sides-once ps hull es h up off =
           (λ inner. off_ring hull es u v off inner ((is_on_hull_decides hull u v).0 on))
           (Contains-append_cases (ring_pairs hull) (flat_map both_sides es) (u, v) has);
     }
-  where
-    pair_or_not : (u v : ℕ) → IsHullPair hull u v ⊎ (¬ IsHullPair hull u v)
-    pair_or_not u v =
-        ⊎_elim (λ yes. inl ((is_pair_decides hull u v).0 yes)) (λ no. inr (λ (p : IsHullPair hull u v). false≢true (sym no ∙ (is_pair_decides hull u v).1 p))) (cases_Bool _)

@@ -8,6 +8,7 @@ use Rattle.price_ascent.specs.declared.entry.Entry.{Entry}
 use Rattle.price_ascent.specs.Belonging.{IsPrice}
 use Rattle.price_ascent.specs.Entries.{entry, prices_of}
 use Rattle.price_ascent.specs.Steps.{AreShares, IsSlack, lowered}
+use Rattle.price_ascent.proofs.Ends.{least_is}
 use Rattle.price_ascent.proofs.Lowering.{IsFall, fallen_belong}
 use Rattle.price_ascent.proofs.Shares.{shares_fit}
 use Rattle.price_ascent.proofs.SlackBounds.{least_fits}
@@ -24,10 +25,6 @@ lowered-requires-clause-price c =
 
 pub lowered-requires-clause-shares : goal.lowered-requires-clause-shares
 lowered-requires-clause-shares c = subst AreShares (sym c.at-kept.ensures) (shares_fit c.args.net.now c.args.self.now c.args.e c.requires.belong c.requires.e_in c.requires.live)
-
--- the least slack as it is written
-least_is : (m : ℤ) → IsSlack m → to_z w64 (of_z w64 m) ≡ m
-least_is m h = let low = h.0 in let high = h.1 in omega (arith, ints, low, high)
 
 pub lowered-requires-clause-m : goal.lowered-requires-clause-m
 lowered-requires-clause-m c =
