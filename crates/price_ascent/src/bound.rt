@@ -10,8 +10,9 @@ use crate::prices::Prices;
 use lmt_network::Network;
 
 impl Prices {
-    /// The bound: the sum of all anchors. No triangulation with live edges that has all anchored edges
-    /// is shorter, by the laws of `lmt_network` on feasible prices. Takes no memory.
+    /// The bound, in millionths: the sum of all anchors. No triangulation with live edges that has all
+    /// anchored edges is shorter, by the laws of `lmt_network` on feasible prices. The amounts of each
+    /// live edge are within the limits of a report. Takes no memory.
     pub fn bound(&self, net: &Network) -> i128
         requires belong { BelongTo net.now self.now }
         ensures value { result ≡ bound net.now.hull (prices_of net.now self.now) }

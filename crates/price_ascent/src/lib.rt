@@ -1,5 +1,7 @@
-//! Prices of live edges, and anchors that add up to a lower bound: start, sweeps, tightening. The
-//! definitions of each stand in `specs/Ascent.antt`.
+//! Prices of live edges, and anchors that add up to a lower bound: start, sweeps, tightening. Prices and
+//! anchors are a dual solution of the linear program over triangles (G. B. Dantzig, A. J. Hoffman and
+//! T. C. Hu, "Triangulations (tilings) and certain block triangular matrices", 1985), made better by one
+//! edge after the other. The definitions of each step stand in `specs/Ascent.antt`.
 #![tactic(auto)]
 
 mod ascent;

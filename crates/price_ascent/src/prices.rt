@@ -30,7 +30,7 @@ impl Model for Prices {
 }
 
 impl Prices {
-    /// The anchor of a hull edge, the price of another live edge, and 0 of a killed edge.
+    /// The anchor of a hull edge, the price of another live edge, and 0 of a killed edge; in millionths.
     pub fn value(&self, e: u32) -> i64
         requires { e < length self.now }
         ensures { result ≡ value_at (table_of self.now) e }
@@ -38,7 +38,8 @@ impl Prices {
         self.at(e).value
     }
 
-    /// The anchor of the edge's side from its lesser end to its greater, 0 where it has none.
+    /// The anchor of the edge's side from its lesser end to its greater, in millionths: 0 where that has
+    /// none of its own, as on the hull.
     pub fn left(&self, e: u32) -> i64
         requires { e < length self.now }
         ensures { result ≡ left_at (table_of self.now) e }
@@ -46,7 +47,8 @@ impl Prices {
         self.at(e).left
     }
 
-    /// The anchor of the edge's side from its greater end to its lesser, 0 where it has none.
+    /// The anchor of the edge's side from its greater end to its lesser, in millionths: 0 where that has
+    /// none of its own, as on the hull.
     pub fn right(&self, e: u32) -> i64
         requires { e < length self.now }
         ensures { result ≡ right_at (table_of self.now) e }
@@ -62,7 +64,7 @@ impl Prices {
         self.at(e).anchored
     }
 
-    /// The slack of a live triangle.
+    /// The slack of a live triangle, in millionths: what its three sides give together.
     pub fn slack(&self, net: &Network, t: u32) -> i128
         requires belong { BelongTo net.now self.now }
         requires t_in { t < length net.now.tris }

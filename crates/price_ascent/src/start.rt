@@ -23,7 +23,7 @@ use std::alloc::{AllocError, Global};
 impl Prices {
     /// The prices to start from: half of each weight, rounded down. All anchors are 0. The edges of
     /// the skeleton, or any live edges in their place, have anchors on both sides; those of the hull
-    /// have one anyway. `NoMemory` is the only error.
+    /// have one anyway. `NoMemory` is the only error, and comes where room for the prices is missing.
     pub fn start(
         alloc: Global,
         net: &Network,
