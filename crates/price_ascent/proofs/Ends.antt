@@ -1,11 +1,10 @@
 -- The ends of the edge with a number, and the edges of the hull.
-use Rattle.std.proofs.Common.{◌≡◌, ◌≢◌, ◌⊎◌, ℕ, ◌+◌, ◌<◌, ◌≤◌, List, ℤ, of_z, to_z, w64, sym, ◌∙◌, subst, arith, ⊎_elim, inl, inr}
+use Rattle.std.proofs.Common.{◌≡◌, ◌⊎◌, ℕ, ◌<◌, ◌≤◌, ℤ, of_z, to_z, w64, sym, subst, arith, ⊎_elim, inl, inr}
 use Rattle.std.proofs.lemmas.Bool.{cases_lt}
 use Rattle.std.proofs.lemmas.Int.{ints}
 use Rattle.exact_predicates.specs.declared.edge.Edge.{Edge}
-use Rattle.exact_predicates.specs.declared.point.Point.{Point}
 use Rattle.exact_predicates.specs.Candidates.{Joins}
-use Rattle.exact_predicates.specs.Hull.{IsHull, IsHullPair}
+use Rattle.exact_predicates.specs.Hull.{IsHullPair}
 use Rattle.exact_predicates.proofs.Rings.{pair_ends}
 use Rattle.lmt_network.specs.Network.{IsNetwork, NetworkParts, edge_at}
 use Rattle.lmt_network.specs.Numbers.{IsNumberOf}

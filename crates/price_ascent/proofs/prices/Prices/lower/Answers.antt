@@ -1,5 +1,4 @@
-use Rattle.std.proofs.Common.{◌≡◌, ◌↔◌, ℕ, ◌<◌, length, set, Contains, ℤ, of_z, to_z, w64, refl, ap, sym, ◌∙◌, subst, arith}
-use Rattle.std.proofs.lemmas.Int.{ints}
+use Rattle.std.proofs.Common.{◌≡◌, ◌↔◌, ℕ, ◌<◌, length, set, Contains, of_z, to_z, w64, refl, ap, sym, ◌∙◌, subst}
 use Rattle.exact_predicates.specs.declared.edge.Edge.{Edge}
 use Rattle.lmt_network.specs.Network.{tri_at}
 use Rattle.lmt_network.specs.Numbers.{HasSide}
