@@ -13,7 +13,6 @@ use Rattle.exact_predicates.specs.Plane.{orient}
 use Rattle.exact_predicates.specs.PointSet.{point_at}
 use Rattle.exact_predicates.proofs.Equalities.{HasEdge-comm}
 use Rattle.empty_triangles.specs.Enumeration.{IsBare, IsThird}
-use Rattle.empty_triangles.proofs.Fans.{flat_last}
 
 -- whether a number is in an ascending list
 pub Contains-searched : (xs : List ℕ) (x : ℕ) (r : Result ℕ ℕ) (found : Bool) → IsBinarySearchResult (λ y. nat_cmp y x) xs r → ((j k : ℕ) → j ≤ k → k < length xs → slice_index xs j ≤ slice_index xs k)

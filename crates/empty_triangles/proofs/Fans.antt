@@ -10,17 +10,10 @@ use Rattle.exact_predicates.proofs.Between.{IsBetween-from_order}
 use Rattle.exact_predicates.proofs.HalfPlane.{left_turn_strict}
 use Rattle.exact_predicates.proofs.Line.{orient-same_line_left, orient-same_line_right}
 use Rattle.exact_predicates.proofs.Numbers.{IsOrdered, IsOrdered-points, IsBetween-numbers}
-use Rattle.exact_predicates.proofs.Orientation.{orient_turned, orient_swapped, orient_swapped_last}
+use Rattle.exact_predicates.proofs.Orientation.{orient_turned, orient_swapped, orient_swapped_last, orient_last_twice, orient_return}
 use Rattle.point_grid.specs.Directions.{Sees}
 use Rattle.empty_triangles.specs.Enumeration.{IsBare}
 use Rattle.empty_triangles.specs.Rays.{IsOnRay, AreTurning, IsSeen}
-
--- two of three points are one
-pub flat_last : (p q : Point) → orient p q q ≡ pos 0
-flat_last p q = omega (arith, ints, orient_swapped_last p q q)
-
-pub flat_first : (p q : Point) → orient p q p ≡ pos 0
-flat_first p q = omega (arith, ints, orient_turned p p q, orient_swapped p p q)
 
 module _ (ps : List Point) (v : IsPointSet ps) (a : ℕ) (a_in : a < length ps) where
   -- the first corner of an empty triangle sees the second
@@ -37,8 +30,8 @@ module _ (ps : List Point) (v : IsPointSet ps) (a : ℕ) (a_in : a < length ps) 
       let ab = o.rising a b up b_in in
       let ar = o.rising a r (omega (arith, n.0)) r_in in
       let rb = o.rising r b (omega (arith, n.1)) b_in in
-      let rbc = orient-same_line_left A B R B C ab rb on (flat_last A B) left in
-      let arc = orient-same_line_left A B A R C ab ar (flat_first A B) on left in
+      let rbc = orient-same_line_left A B R B C ab rb on (orient_last_twice A B) left in
+      let arc = orient-same_line_left A B A R C ab ar (orient_return A B) on left in
       ⊎_elim (λ e. omega (arith, n.0)) (λ w. ⊎_elim (λ e. omega (arith, n.1)) (λ e. let flat = subst (λ (x : ℕ). orient A B (point_at ps x) ≡ pos 0) e on in omega (arith, ints)) w)
       (h.bare r r_in (record {
         left_of_ab = omega (arith, ints);
@@ -61,7 +54,7 @@ module _ (ps : List Point) (v : IsPointSet ps) (a : ℕ) (a_in : a < length ps) 
 
   -- they are distinct
   pub heads_apart : (i j : ℕ) → i < j → j < length heads → number i ≢ number j
-  heads_apart i j l j_in same = let h = subst (λ (x : ℕ). pos 0 <ℤ orient A (P j) (point_at ps x)) same (turns i j l j_in) in omega (arith, ints, flat_last A (P j))
+  heads_apart i j l j_in same = let h = subst (λ (x : ℕ). pos 0 <ℤ orient A (P j) (point_at ps x)) same (turns i j l j_in) in omega (arith, ints, orient_last_twice A (P j))
 
   -- the second corner of an empty triangle comes first on its ray
   pub second_first : (b c : ℕ) → a < b → b < length ps → IsBare ps a b c → IsOnRay ps a heads b → Contains heads b
@@ -93,12 +86,12 @@ module _ (ps : List Point) (v : IsPointSet ps) (a : ℕ) (a_in : a < length ps) 
       let ac = o.rising a c h.after c_in in
       let ah = o.rising a _ n.0 n.1 in
       let hc = o.rising _ c l c_in in
-      let ahb = orient-same_line_right A C A H B ac ah (flat_first A C) to_c right in
-      let hcb = orient-same_line_right A C H C B ac hc to_c (flat_last A C) right in
+      let ahb = orient-same_line_right A C A H B ac ah (orient_return A C) to_c right in
+      let hcb = orient-same_line_right A C H C B ac hc to_c (orient_last_twice A C) right in
       absurd (⊎_elim
       (λ e. omega (arith, n.0))
       (⊎_elim
-      (λ e. let on_b = subst (λ (x : ℕ). orient A (point_at ps x) B <ℤ pos 0) e ahb in omega (arith, ints, flat_last A B))
+      (λ e. let on_b = subst (λ (x : ℕ). orient A (point_at ps x) B <ℤ pos 0) e ahb in omega (arith, ints, orient_last_twice A B))
       (λ e. omega arith))
       (h.bare (number r.place) n.1 (record {
         left_of_ab = omega (arith, ints, orient_swapped_last A B H);
@@ -161,19 +154,19 @@ module _ (ps : List Point) (v : IsPointSet ps) (a : ℕ) (a_in : a < length ps) 
         farther l =
             by_place
             (λ m. let h = turns p i m (omega (arith, i_j)) in
-            let k = orient-same_line_right A H A R C ah ar (flat_first A H) on (omega (arith, ints, orient_swapped_last A H C)) in
+            let k = orient-same_line_right A H A R C ah ar (orient_return A H) on (omega (arith, ints, orient_swapped_last A H C)) in
             omega (arith, ints, orient_swapped_last A C R))
-            (λ e. inr (let k = orient-same_line_right A H H R B ah hr (flat_last A H) on (subst (λ (x : ℕ). orient A (P x) B <ℤ pos 0) (sym e) (omega (arith, ints, left, orient_swapped_last A B C))) in
+            (λ e. inr (let k = orient-same_line_right A H H R B ah hr (orient_last_twice A H) on (subst (λ (x : ℕ). orient A (P x) B <ℤ pos 0) (sym e) (omega (arith, ints, left, orient_swapped_last A B C))) in
             let at_c = subst (λ (x : ℕ). orient (P x) R B <ℤ pos 0) e k in
             omega (arith, ints, orient_turned B C R, orient_swapped_last B C R)))
             (λ m n. let h = turns p j n j_in in
             let right : orient A H B <ℤ pos 0 = omega (arith, ints, orient_swapped_last A B H) in
-            let arb = orient-same_line_right A H A R B ah ar (flat_first A H) on right in
-            let hrb = orient-same_line_right A H H R B ah hr (flat_last A H) on right in
+            let arb = orient-same_line_right A H A R B ah ar (orient_return A H) on right in
+            let hrb = orient-same_line_right A H H R B ah hr (orient_last_twice A H) on right in
             left_turn_strict A B R H C (omega (arith, ints, orient_swapped_last A B R)) h left (omega (arith, ints, orient_turned B H R, orient_swapped_last B H R)) (s.past p m n))
             (λ e. inr (let on_b = subst (λ (x : ℕ). orient A (P x) R ≡ pos 0) e on in
-            orient-same_line_left A B B R C (o.rising a _ nj.0 nj.1) (subst (λ (x : ℕ). Precedes (P x) R) e hr) (flat_last A B) on_b left))
-            (λ m. orient-same_line_left A H A R B ah ar (flat_first A H) on (turns j p m p_in))
+            orient-same_line_left A B B R C (o.rising a _ nj.0 nj.1) (subst (λ (x : ℕ). Precedes (P x) R) e hr) (orient_last_twice A B) on_b left))
+            (λ m. orient-same_line_left A H A R B ah ar (orient_return A H) on (turns j p m p_in))
           where
             o : IsOrdered (point_at ps) (length ps)
             o = IsOrdered-points ps v

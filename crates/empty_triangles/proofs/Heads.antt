@@ -11,11 +11,10 @@ use Rattle.exact_predicates.specs.PointSet.{IsPointSet, point_at}
 use Rattle.exact_predicates.proofs.HalfPlane.{turn_strict_last}
 use Rattle.exact_predicates.proofs.Line.{orient-on_line}
 use Rattle.exact_predicates.proofs.Numbers.{IsOrdered-points}
-use Rattle.exact_predicates.proofs.Orientation.{orient_swapped_last}
+use Rattle.exact_predicates.proofs.Orientation.{orient_swapped_last, orient_last_twice, orient_return}
 use Rattle.point_grid.specs.Directions.{AreByDirection}
 use Rattle.point_grid.proofs.Rays.{follows}
 use Rattle.empty_triangles.specs.Rays.{IsOnRay, AreHeads, AreTurning}
-use Rattle.empty_triangles.proofs.Fans.{flat_last, flat_first}
 
 -- the heads among the first k places of an order, from right to left
 pub record AreHeadsTo (ps : List Point) (a : ℕ) (order : List ℕ) (k : ℕ) (heads : List ℕ) : Type 0 where
@@ -69,7 +68,7 @@ module _ (ps : List Point) (a : ℕ) (order : List ℕ) (v : IsPointSet ps) (a_i
             (record {
               place = length heads;
               place_in = omega (arith, length-append heads (c ∷ []));
-              on = subst (λ (x : ℕ). orient (point_at ps a) (point_at ps x) (P k) ≡ pos 0) last (flat_last (point_at ps a) (P k));
+              on = subst (λ (x : ℕ). orient (point_at ps a) (point_at ps x) (P k) ≡ pos 0) last (orient_last_twice (point_at ps a) (P k));
               near = omega (arith, last);
             }))
             (cases_lt m k);
@@ -99,7 +98,7 @@ module _ (ps : List Point) (a : ℕ) (order : List ℕ) (v : IsPointSet ps) (a_i
           (λ t. let near = r.near in record {
             place = r.place;
             place_in = r.place_in;
-            on = orient-on_line A (P (k - 1)) A (point_at ps (slice_index heads r.place)) (P k) (o.rising a _ nl.0 nl.1) (flat_first A (P (k - 1)))
+            on = orient-on_line A (P (k - 1)) A (point_at ps (slice_index heads r.place)) (P k) (o.rising a _ nl.0 nl.1) (orient_return A (P (k - 1)))
                 (let on = r.on in omega (arith, ints, orient_swapped_last A (P (k - 1)) (point_at ps (slice_index heads r.place)))) t.0;
             near = omega (arith, t.1);
           })
@@ -146,7 +145,7 @@ left_before ps a heads t b k m k_in is m_in left =
     ⊎_elim
     (λ s. let back = t.turning k m 0 s m_in in omega (arith, ints, orient_swapped_last (point_at ps a) (point_at ps (slice_index heads k)) (point_at ps (slice_index heads m))))
     (λ s. let same : m ≡ k = omega arith in
-    let on = subst (λ (x : ℕ). pos 0 <ℤ orient (point_at ps a) (point_at ps (slice_index heads k)) (point_at ps (slice_index heads x))) same turn in omega (arith, ints, flat_last (point_at ps a) (point_at ps (slice_index heads k))))
+    let on = subst (λ (x : ℕ). pos 0 <ℤ orient (point_at ps a) (point_at ps (slice_index heads k)) (point_at ps (slice_index heads x))) same turn in omega (arith, ints, orient_last_twice (point_at ps a) (point_at ps (slice_index heads k))))
     (cases_lt k m)))
     (cases_lt m k)
 

@@ -14,11 +14,11 @@ use Rattle.exact_predicates.specs.Candidates.{HasEdge}
 use Rattle.exact_predicates.specs.Plane.{orient}
 use Rattle.exact_predicates.specs.PointSet.{IsPointSet, point_at}
 use Rattle.exact_predicates.proofs.ListFacts.{AllPairs-IsPermutation}
-use Rattle.exact_predicates.proofs.Orientation.{orient_swapped_last}
+use Rattle.exact_predicates.proofs.Orientation.{orient_swapped_last, orient_last_twice}
 use Rattle.empty_triangles.specs.Enumeration.{IsThird, AreThirds}
 use Rattle.empty_triangles.specs.Corners.{IsCorner}
 use Rattle.empty_triangles.specs.Rays.{IsOnRay, AreSeen}
-use Rattle.empty_triangles.proofs.Fans.{flat_last, heads_apart, bare_seen, seen_bare, second_first, third_first}
+use Rattle.empty_triangles.proofs.Fans.{heads_apart, bare_seen, seen_bare, second_first, third_first}
 
 -- their order does not matter
 pub AreThirds-permutation : (ps : List Point) (es : List Edge) (a b : ℕ) (cs ds : List ℕ) → IsPermutation cs ds → AreThirds ps es a b cs → AreThirds ps es a b ds
@@ -127,7 +127,7 @@ module _ (ps : List Point) (es : List Edge) (a : ℕ) (row heads : List ℕ) (v 
           let left = u.bare.turns_left in
           subst (Contains cs) here
           (⊎_elim
-          (λ e. absurd (let on = subst (λ (x : ℕ). pos 0 <ℤ orient (point_at ps a) (point_at ps b) (point_at ps (slice_index heads x))) e left in omega (arith, ints, flat_last (point_at ps a) (point_at ps b))))
+          (λ e. absurd (let on = subst (λ (x : ℕ). pos 0 <ℤ orient (point_at ps a) (point_at ps b) (point_at ps (slice_index heads x))) e left in omega (arith, ints, orient_last_twice (point_at ps a) (point_at ps b))))
           (⊎_elim
           (λ l. listed i u (p.all i (seen_bare ps v a a_in heads f.around i j l j_in u.bare)))
           (λ l. let right = f.around.turning j i 0 l i_in in absurd (omega (arith, ints, orient_swapped_last (point_at ps a) (point_at ps b) (point_at ps (slice_index heads i))))))
