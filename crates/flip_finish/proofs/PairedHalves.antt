@@ -52,7 +52,7 @@ same_edges (g ∷ us) (h ∷ ds) u d same =
     (λ ends.
     let e = Edge-equal g.edge h.edge ends.0 ends.1 in
     let tails = same_edges us ds (AllPairs-tail R g us u) (AllPairs-tail R h ds d)
-        (λ x y. omega (arith, same x y, sum_by-cons (edge_hit x y) g us, sum_by-cons (edge_hit x y) h ds, ap (λ (f : Edge). hit x y (f.a, f.b)) e)) in
+    (λ x y. omega (arith, same x y, sum_by-cons (edge_hit x y) g us, sum_by-cons (edge_hit x y) h ds, ap (λ (f : Edge). hit x y (f.a, f.b)) e)) in
     ap (λ f. f ∷ map (λ k. k.edge) us) e ∙ ap (λ es. h.edge ∷ es) tails)
     (λ l. absurd (omega (arith, own_hit h ds, same h.edge.a h.edge.b, not_there h.edge g us l u)))
     rest)

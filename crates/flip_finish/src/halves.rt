@@ -25,12 +25,7 @@ impl Halves {
 
     // The sides of all triangles, and the outer sides of the hull's pairs. Room is made for so many
     // ups and downs.
-    pub fn of(
-        alloc: Global,
-        room: usize,
-        hull: &[u32],
-        tris: &[Tri],
-    ) -> Result<Halves, NoMemory>
+    pub fn of(alloc: Global, room: usize, hull: &[u32], tris: &[Tri]) -> Result<Halves, NoMemory>
         requires some { 2 ≤ length hull.now }
         requires distinct { AllPairs (λ u v. u ≢ v) hull.now }
         requires few { length tris.now < 2 ^ 32 }
