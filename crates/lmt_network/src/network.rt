@@ -1,18 +1,17 @@
 // The network of edges and triangles.
-ghost use Rattle.std.specs.Prelude.{◌≡◌, ◌≤◌, ◌<◌, ◌*◌, ◌^◌, ◌↔◌, ℕ, length, IsTrue, IfOk, AllPairs, Contains, slice_index};
+ghost use Rattle.std.specs.Prelude.{◌≡◌, ◌≤◌, ◌<◌, ◌*◌, ◌^◌, ◌↔◌, ℕ, length, IsTrue, IfOk, IfSome, IsNone, AllPairs, Contains, slice_index};
 ghost use Rattle.exact_predicates.specs.declared.diamond.Diamond.{Diamond};
 ghost use Rattle.exact_predicates.specs.Hull.{IsHull};
 ghost use Rattle.exact_predicates.specs.Plane.{IsInRange};
 ghost use Rattle.exact_predicates.specs.PointSet.{point_at};
-ghost use Rattle.exact_predicates.specs.Candidates.{AreCandidates, AreTrianglesOver, IsEmptyOver};
+ghost use Rattle.exact_predicates.specs.Candidates.{AreCandidates, AreTrianglesOver, IsEmptyOver, HasEdge};
 ghost use Rattle.length_enclosure.specs.Enclosure.{weight};
 ghost use Rattle.lmt_network.specs.Network.{NetworkParts, IsNetwork, edge_at, tri_at};
 ghost use Rattle.lmt_network.specs.Numbers.{IsHullNumber, IsOnLeft, IsOnRight, IsMinimalPair, IsNumberOf, IsSideOf, HasSide};
 ghost use Rattle.exact_predicates.specs.Triangulation.{HasCorners};
 
-use crate::tables::{hull_flags, row, row_starts, rows, side_keys};
+use crate::tables::{find_edge, hull_flags, row, row_starts, rows, side_keys, weights};
 use exact_predicates::{Edge, Edges, Hull, Point, Points, Tri, Tris, d2, strictly_convex};
-use length_enclosure::weight;
 use mwt_base::NoMemory;
 use std::alloc::Global;
 use std::marker::Model;
@@ -27,6 +26,8 @@ pub struct Network {
     tris: Tris,
     // Of each edge, whether it is a hull edge.
     on_hull: Vec<bool>,
+    // Of each edge, its length in millionths of the unit, rounded down.
+    weights: Vec<u64>,
     // Of each triangle, the keys of its three sides: the row of the triangles that have this side.
     keys: Vec<u32>,
     // Where each row begins in `rows`, and where the last one ends.
@@ -65,6 +66,7 @@ impl Network {
             record { points = points.now.points; hull = hull.now; edges = edges; tris = tris }) }
     {
         let on_hull = hull_flags(alloc, edges.as_slice(), hull.as_slice())?;
+        let weights = weights(alloc, points.as_slice(), edges.as_slice())?;
         let keys = side_keys(alloc, edges.as_slice(), tris.as_slice())?;
         let starts = row_starts(alloc, &keys, 2 * edges.len())?;
         let rows = rows(alloc, &keys, 2 * edges.len(), &starts)?;
@@ -76,6 +78,7 @@ impl Network {
             edges,
             tris,
             on_hull,
+            weights,
             keys,
             starts,
             rows,
@@ -138,8 +141,16 @@ impl Network {
         ensures value { result ≡ weight self.now.points ((edge_at self.now e).a, (edge_at self.now e).b) }
         ensures bound { result < 3 * 10 ^ 15 }
     {
-        let edge = self.edge(e);
-        weight(d2(self.point(edge.a), self.point(edge.b)))
+        self.weights[e as usize]
+    }
+
+    /// The number of the edge with the ends `u` and `v`, in either order; None exactly where there is
+    /// no such edge.
+    pub fn edge_number(&self, u: u32, v: u32) -> Option<u32>
+        ensures some { IfSome result (IsNumberOf self.now u v) }
+        ensures none { IsNone result ↔ ¬ HasEdge self.now.edges u v }
+    {
+        find_edge(self.edges.as_slice(), u, v)
     }
 
     /// Whether the edge is an edge of the hull.
