@@ -9,8 +9,8 @@ use lib.ListN.{get_elem?}
 use Rattle.atomic_table.specs.Table.{State}
 use Rattle.lmt_network.specs.Flags.{live_numbers}
 use Rattle.lmt_network.specs.Numbers.{IsHullNumber, IsSupported, AreClosed, AreLive}
-use Rattle.lmt_network.proofs.Laws.{live_same}
-use Rattle.lmt_network.proofs.Picked.{all-from-members, flag_in, live_from_flag, flag_from_live}
+use Rattle.lmt_network.proofs.NumberLaws.{live_same}
+use Rattle.lmt_network.proofs.Picked.{All-from_members, flag_in, live_from_flag, flag_from_live}
 use Rattle.edge_marks.specs.declared.view.Known.{Known}
 use Rattle.edge_marks.specs.declared.view.About.{About}
 use Rattle.edge_marks.specs.Words.{mark_of}
@@ -54,7 +54,7 @@ word_at (w ∷ ws) (suc i) x h = word_at ws i x h
 module _ (k : About) (s : State ℕ Known) (r : MarksHold k s) (flags : List Bool) (wide : length flags ≡ length k.net.value.edges) (shows : FlagsShow (length k.net.value.edges) s.words flags) where
   -- a member of closed edges stays live
   pub closed_stay : (es : List ℕ) → AreClosed (net k) es → All (Contains (live_numbers flags)) es
-  closed_stay es closed = all-from-members (Contains (live_numbers flags)) es
+  closed_stay es closed = All-from_members (Contains (live_numbers flags)) es
       (λ e has. let low = (All-contains (λ x. (x < length (net k).edges) × (IsHullNumber (net k) x ⊎ IsSupported (net k) es x)) es e closed has).0 in
       dite (ℕ_discrete (mark_of s.words e) 0)
       (λ z. live_from_flag flags e (shows e low ∙ eq-eqb (mark_of s.words e) 0 z))

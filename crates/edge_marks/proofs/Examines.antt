@@ -6,7 +6,7 @@ use mathlib.Core.Logic.{dite}
 use native.Mathlib.Decide.{ℕ_discrete}
 use Rattle.lmt_network.specs.Network.{NetworkParts, tri_at}
 use Rattle.lmt_network.specs.Numbers.{IsMinimalPair, IsNumberOf, IsOnLeft, IsOnRight, IsSideOf, IsOtherSide, IsBroken}
-use Rattle.lmt_network.proofs.Picked.{contains-nil}
+use Rattle.lmt_network.proofs.Picked.{Contains-nil}
 use Rattle.edge_marks.specs.declared.view.Known.{Known}
 use Rattle.edge_marks.specs.Told.{Asked, looked_all, FoundLive, AskForSidesOf, AskForSides, HasLiveSides, HasKilledSide, IsLivePair, IsBrokenWith}
 use Rattle.edge_marks.proofs.Loads.{looked_on, seen_kept, live_front, live_back}
@@ -25,7 +25,7 @@ at_member : (xs : List ℕ) (x : ℕ) → Contains xs x → (k : ℕ) × (k < le
 at_member xs x (k, k_in, is) = (k, k_in, get_or_default xs k 0 x k_in ∙ is)
 
 pub ask_none : (n : NetworkParts) (e t : ℕ) → AskForSidesOf n e t []
-ask_none n e t l h = absurd (contains-nil l h)
+ask_none n e t l h = absurd (Contains-nil l h)
 
 pub ask_of_side : (n : NetworkParts) (e t f : ℕ) (ls : List Asked) → IsSideOf n t f → ((l : Asked) → Contains ls l → (l.edge ≡ f) × (f ≢ e)) → AskForSidesOf n e t ls
 ask_of_side n e t f ls side only l h = let o = only l h in subst (λ (g : ℕ). (g ≢ e) × IsSideOf n t g) (sym o.0) (o.1, side)

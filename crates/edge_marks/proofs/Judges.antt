@@ -5,7 +5,7 @@ use mathlib.Core.Logic.{dite}
 use native.Mathlib.Decide.{ℕ_discrete}
 use Rattle.lmt_network.specs.Network.{NetworkParts}
 use Rattle.lmt_network.specs.Numbers.{IsHullNumber}
-use Rattle.lmt_network.proofs.Picked.{contains-here, contains-later, contains-cases, contains-nil}
+use Rattle.lmt_network.proofs.Picked.{Contains-here, Contains-later, Contains-cases, Contains-nil}
 use Rattle.edge_marks.specs.declared.view.Loaded.{Loaded}
 use Rattle.edge_marks.specs.declared.view.Pass.{Pass}
 use Rattle.edge_marks.specs.declared.view.Pass.TheVariants.{NoPass, InPass}
@@ -43,11 +43,11 @@ one_judged n old mid new e so ls is here = (
 
 -- a load for an edge is a load of its word
 contains_word : (ls : List Asked) (l : Asked) → Contains ls l → Contains (map word_loaded ls) (word_loaded l)
-contains_word [] l h = absurd (contains-nil l h)
+contains_word [] l h = absurd (Contains-nil l h)
 contains_word (x ∷ xs) l h = ⊎_elim
-    (λ (is : x ≡ l). subst (λ (y : Asked). Contains (word_loaded x ∷ map word_loaded xs) (word_loaded y)) is (contains-here (word_loaded x) (map word_loaded xs)))
-    (λ (t : Contains xs l). contains-later (word_loaded x) (word_loaded l) (map word_loaded xs) (contains_word xs l t))
-    (contains-cases x l xs h)
+    (λ (is : x ≡ l). subst (λ (y : Asked). Contains (word_loaded x ∷ map word_loaded xs) (word_loaded y)) is (Contains-here (word_loaded x) (map word_loaded xs)))
+    (λ (t : Contains xs l). Contains-later (word_loaded x) (word_loaded l) (map word_loaded xs) (contains_word xs l t))
+    (Contains-cases x l xs h)
 
 was_live : (ls : List Asked) (f : ℕ) → FoundLive ls f → WasLive (map word_loaded ls) f
 was_live ls f h = (h.0, contains_word ls (asked f h.0) h.1, h.2)

@@ -6,8 +6,8 @@ use native.Mathlib.Decide.{ℕ_discrete}
 use Rattle.atomic_table.specs.Table.{State, step, keeps, Allows}
 use Rattle.lmt_network.specs.Network.{NetworkParts}
 use Rattle.lmt_network.specs.Numbers.{IsHullNumber, IsDead, IsBroken}
-use Rattle.lmt_network.proofs.Laws.{dead_if_broken}
-use Rattle.lmt_network.proofs.Picked.{contains-here, contains-cases}
+use Rattle.lmt_network.proofs.NumberLaws.{dead_if_broken}
+use Rattle.lmt_network.proofs.Picked.{Contains-here, Contains-cases}
 use Rattle.edge_marks.specs.declared.view.Phase.{Phase}
 use Rattle.edge_marks.specs.declared.view.Phase.TheVariants.{Idle, Begun, Marked}
 use Rattle.edge_marks.specs.declared.view.Known.{Known}
@@ -46,13 +46,13 @@ module _ (k : About) where
         mine = record {
           net_is = h.net_is;
           seen_killed = base.seen_killed;
-          tried_below = λ f has. ⊎_elim (λ (t : e ≡ f). subst (λ (y : ℕ). y < E) t low) (λ (t : Contains d.tried f). h.tried_below f t) (contains-cases e f d.tried has);
+          tried_below = λ f has. ⊎_elim (λ (t : e ≡ f). subst (λ (y : ℕ). y < E) t low) (λ (t : Contains d.tried f). h.tried_below f t) (Contains-cases e f d.tried has);
           tried_killed = λ f has not. ⊎_elim
               (λ (t : e ≡ f). absurd (not (ap (λ (y : ℕ). let p : Phase = Begun y in p) t)))
               (λ (t : Contains d.tried f). base.tried_killed f t (λ z. absurd (let g : Idle ≡ Begun f = sym idle ∙ z in cc)))
-              (contains-cases e f d.tried has);
+              (Contains-cases e f d.tried has);
           tried_once = distinct_more e d.tried new h.tried_once;
-          aim = (low, inner, dead, contains-here e d.tried);
+          aim = (low, inner, dead, Contains-here e d.tried);
           in_pass = tt;
           quiet = base.quiet;
           low_is = let g : x + 1 ≤ get_or ws' W 0 = omega arith in g;
@@ -139,7 +139,7 @@ module _ (k : About) where
             seen_killed = λ f has. ⊎_elim
                 (λ (t : e ≡ f). subst (λ (j : ℕ). (j < E) × (0 < mark_of ws' j)) t (low, lit))
                 (λ (t : Contains d.seen f). base.seen_killed f t)
-                (contains-cases e f d.seen has);
+                (Contains-cases e f d.seen has);
             tried_below = h.tried_below;
             tried_killed = λ f has not. base.tried_killed f has (λ z. absurd (let g : Marked e ≡ Begun f = sym is ∙ z in cc));
             tried_once = h.tried_once;

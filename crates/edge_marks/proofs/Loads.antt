@@ -2,7 +2,7 @@
 use Rattle.std.proofs.Common.{◌≡◌, ℕ, zero, suc, ◌/◌, ◌<◌, map, List, [], ◌∷◌, ◌++◌, Contains, sym, refl, ap, ◌∙◌, subst, arith}
 use Rattle.std.proofs.lemmas.List.{append-nil}
 use Rattle.std.proofs.lemmas.List.Elements.{Contains-append_left, Contains-append_right}
-use Rattle.lmt_network.proofs.Picked.{contains-here, contains-later}
+use Rattle.lmt_network.proofs.Picked.{Contains-here, Contains-later}
 use Rattle.edge_marks.specs.declared.view.Loaded.{Loaded}
 use Rattle.edge_marks.specs.declared.view.Pass.{Pass}
 use Rattle.edge_marks.specs.declared.view.Pass.TheVariants.{InPass}
@@ -22,7 +22,7 @@ looked_on old mid new xs ys a b = b ∙ (ap (looked_all ys) a ∙ sym (looked_ap
 
 pub seen_more : (e b f : ℕ) (seen : List ℕ) → Contains seen f → Contains (now_seen e b seen) f
 seen_more e zero f seen h = h
-seen_more e (suc b) f seen h = contains-later e f seen h
+seen_more e (suc b) f seen h = Contains-later e f seen h
 
 pub seen_kept : (ls : List Asked) (d : Known) (f : ℕ) → Contains d.seen f → Contains (looked_all ls d).seen f
 seen_kept [] d f h = h
@@ -30,7 +30,7 @@ seen_kept (l ∷ ls) d f h = seen_kept ls (looked_view l.edge l.value d) f (seen
 
 seen_here : (e b : ℕ) (seen : List ℕ) → 0 < b → Contains (now_seen e b seen) e
 seen_here e zero seen h = absurd (omega arith)
-seen_here e (suc b) seen h = contains-here e seen
+seen_here e (suc b) seen h = Contains-here e seen
 
 -- an edge that was found killed was seen
 pub killed_seen : (e x : ℕ) (d d' : Known) → d' ≡ looked_view e x d → 0 < bit_in x e → Contains d'.seen e
@@ -83,4 +83,4 @@ pub live_back : (xs ys : List Asked) (f : ℕ) → FoundLive ys f → FoundLive 
 live_back xs ys f h = (h.0, Contains-append_right xs ys (asked f h.0) h.1, h.2)
 
 pub live_one : (f x : ℕ) → bit_in x f ≡ 0 → FoundLive (asked f x ∷ []) f
-live_one f x h = (x, contains-here (asked f x) [], h)
+live_one f x h = (x, Contains-here (asked f x) [], h)

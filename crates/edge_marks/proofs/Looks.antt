@@ -4,8 +4,8 @@ use mathlib.Core.Option.{none}
 use Rattle.atomic_table.specs.Table.{step, keeps, Allows}
 use Rattle.lmt_network.specs.Network.{NetworkParts}
 use Rattle.lmt_network.specs.Numbers.{AreLive, IsDead}
-use Rattle.lmt_network.proofs.Laws.{live_once}
-use Rattle.lmt_network.proofs.Picked.{contains-cases}
+use Rattle.lmt_network.proofs.NumberLaws.{live_once}
+use Rattle.lmt_network.proofs.Picked.{Contains-cases}
 use Rattle.edge_marks.specs.declared.view.Loaded.{Loaded}
 use Rattle.edge_marks.specs.declared.view.Phase.TheVariants.{Idle, Begun}
 use Rattle.edge_marks.specs.declared.view.Pass.{Pass}
@@ -25,7 +25,7 @@ seen_now n ws e zero seen low is old f h = old f h
 seen_now n ws e (suc b) seen low is old f h = ⊎_elim
     (λ (same : e ≡ f). subst (λ (g : ℕ). (g < length n.edges) × (0 < mark_of ws g)) same (let p : 0 < mark_of ws e = omega arith in (low, p)))
     (λ (t : Contains seen f). old f t)
-    (contains-cases e f seen h)
+    (Contains-cases e f seen h)
 
 pass_loaded : (n : NetworkParts) (ws : List ℕ) (i x : ℕ) (p : Pass) → i < length n.edges / 64 + 1 → get_or ws i 0 ≡ x → PassHolds n ws p → PassHolds n ws (now_loaded i x p)
 pass_loaded n ws i x NoPass low is holds = tt

@@ -10,13 +10,13 @@ use Rattle.std.proofs.Math.Seq.{get_or-append_seam}
 use mathlib.Core.Logic.{dite}
 use native.Mathlib.Decide.{ℕ_discrete}
 use Rattle.exact_predicates.proofs.Few.{length-le_from_distinct}
-use Rattle.lmt_network.proofs.Picked.{contains-here, contains-later, contains-cases, contains-nil, all-from-members}
+use Rattle.lmt_network.proofs.Picked.{Contains-here, Contains-later, Contains-cases, Contains-nil, All-from_members}
 use Rattle.edge_marks.specs.Handles.{has_number}
 
 module _ {X : Type 0} where
   -- the members of a list with one more at its end
   pub contains_last : (xs : List X) (x : X) → Contains (xs ++ x ∷ []) x
-  contains_last xs x = Contains-append_right xs (x ∷ []) x (contains-here x [])
+  contains_last xs x = Contains-append_right xs (x ∷ []) x (Contains-here x [])
 
   pub contains_more : (xs : List X) (y x : X) → Contains xs x → Contains (xs ++ y ∷ []) x
   contains_more xs y x h = Contains-append_left xs (y ∷ []) x h
@@ -24,7 +24,7 @@ module _ {X : Type 0} where
   pub contains_cut : (xs : List X) (y x : X) → Contains (xs ++ y ∷ []) x → Contains xs x ⊎ (y ≡ x)
   contains_cut xs y x h = ⊎_elim
       (λ (t : Contains xs x). inl t)
-      (λ (t : Contains (y ∷ []) x). ⊎_elim (λ (e : y ≡ x). inr e) (λ (u : Contains [] x). absurd (contains-nil x u)) (contains-cases y x [] t))
+      (λ (t : Contains (y ∷ []) x). ⊎_elim (λ (e : y ≡ x). inr e) (λ (u : Contains [] x). absurd (Contains-nil x u)) (Contains-cases y x [] t))
       (Contains-append_cases xs (y ∷ []) x h)
 
   -- a fact of the elements before the last, and of the last
@@ -39,21 +39,21 @@ module _ {X : Type 0} where
 -- distinct numbers with one more
 pub distinct_more : (x : ℕ) (xs : List ℕ) → ¬ Contains xs x → AllPairs (λ e f. e ≢ f) xs → AllPairs (λ e f. e ≢ f) (x ∷ xs)
 distinct_more x xs new once = AllPairs-cons (λ e f. e ≢ f) x xs
-    (all-from-members (λ f. x ≢ f) xs (λ f h same. new (subst (λ (e : ℕ). Contains xs e) (sym same) h))) once
+    (All-from_members (λ f. x ≢ f) xs (λ f h same. new (subst (λ (e : ℕ). Contains xs e) (sym same) h))) once
 
 -- distinct numbers below n are at most n
 pub distinct_length : (xs : List ℕ) (n : ℕ) → AllPairs (λ e f. e ≢ f) xs → ((e : ℕ) → Contains xs e → e < n) → length xs ≤ n
 distinct_length xs n once below = let below_n : List ℕ = range_with_len 0 n in let wide : length below_n ≡ n = length-range_with_len 0 n in
-    let few = length-le_from_distinct below_n xs once (all-from-members (Contains below_n) xs (λ e h. let low = below e h in let at = get_or-range_with_len 0 n e e low in let is : get_or below_n e e ≡ e = omega arith in (e, omega arith, is))) in omega arith
+    let few = length-le_from_distinct below_n xs once (All-from_members (Contains below_n) xs (λ e h. let low = below e h in let at = get_or-range_with_len 0 n e e low in let is : get_or below_n e e ≡ e = omega arith in (e, omega arith, is))) in omega arith
 
 pub contains_number : (e : ℕ) (l : List ℕ) → has_number e l ≡ true → Contains l e
 contains_number e [] h = absurd (false≢true h)
 contains_number e (y ∷ ys) h = dite (ℕ_discrete y e)
-    (λ is. subst (λ (x : ℕ). Contains (y ∷ ys) x) is (contains-here y ys))
-    (λ n. contains-later y e ys (contains_number e ys (ap (λ (b : Bool). cond b true (has_number e ys)) (sym (ne_eqb y e n)) ∙ h)))
+    (λ is. subst (λ (x : ℕ). Contains (y ∷ ys) x) is (Contains-here y ys))
+    (λ n. Contains-later y e ys (contains_number e ys (ap (λ (b : Bool). cond b true (has_number e ys)) (sym (ne_eqb y e n)) ∙ h)))
 
 pub number_contained : (e : ℕ) (l : List ℕ) → Contains l e → has_number e l ≡ true
-number_contained e [] h = absurd (contains-nil e h)
+number_contained e [] h = absurd (Contains-nil e h)
 number_contained e (y ∷ ys) h = dite (ℕ_discrete y e)
     (λ is. ap (λ (b : Bool). cond b true (has_number e ys)) (eq-eqb y e is))
-    (λ n. ⊎_elim (λ (is : y ≡ e). absurd (n is)) (λ (t : Contains ys e). ap (λ (b : Bool). cond b true (has_number e ys)) (ne_eqb y e n) ∙ number_contained e ys t) (contains-cases y e ys h))
+    (λ n. ⊎_elim (λ (is : y ≡ e). absurd (n is)) (λ (t : Contains ys e). ap (λ (b : Bool). cond b true (has_number e ys)) (ne_eqb y e n) ∙ number_contained e ys t) (Contains-cases y e ys h))

@@ -8,8 +8,8 @@ use native.Mathlib.Decide.{ℕ_discrete}
 use Rattle.atomic_table.specs.Table.{State, step, keeps, Allows}
 use Rattle.lmt_network.specs.Network.{NetworkParts}
 use Rattle.lmt_network.specs.Numbers.{IsHullNumber, IsSupported, AreLive}
-use Rattle.lmt_network.proofs.Laws.{hull_not_dead}
-use Rattle.lmt_network.proofs.Picked.{all-from-members, contains-nil}
+use Rattle.lmt_network.proofs.NumberLaws.{hull_not_dead}
+use Rattle.lmt_network.proofs.Picked.{All-from_members, Contains-nil}
 use Rattle.edge_marks.specs.declared.view.Loaded.{Loaded}
 use Rattle.edge_marks.specs.declared.view.Pass.{Pass}
 use Rattle.edge_marks.specs.declared.view.Pass.TheVariants.{NoPass, AtFirst, InPass}
@@ -32,7 +32,7 @@ eqb_same x b h = dite (ℕ_discrete x b) (λ e. e) (λ n. absurd (false≢true (
 pass_compared : (n : NetworkParts) (ws : List ℕ) (x : ℕ) (p : Pass) → finished n ws ≡ x → PassHolds n ws p → PassHolds n ws (compared x p)
 pass_compared n ws x NoPass is holds = tt
 pass_compared n ws x (AtFirst b) is holds = let P : Pass → Type 0 = λ p. PassHolds n ws p in dite (ℕ_discrete x b)
-    (λ e. subst (λ (t : Bool). P (cond t (InPass b []) NoPass)) (sym (eq-eqb x b e)) (holds, λ now. (is ∙ e, λ l h. absurd (contains-nil l h))))
+    (λ e. subst (λ (t : Bool). P (cond t (InPass b []) NoPass)) (sym (eq-eqb x b e)) (holds, λ now. (is ∙ e, λ l h. absurd (Contains-nil l h))))
     (λ ne. subst (λ (t : Bool). P (cond t (InPass b []) NoPass)) (sym (ne_eqb x b ne)) tt)
 pass_compared n ws x (InPass b loads) is holds = tt
 
@@ -86,7 +86,7 @@ module _ (k : About) where
   -- where each edge was judged, by loads that are the present words, the edges that are not killed are the live ones
   live_now : (s : State ℕ Known) → MarksHold k s → (loads : List Loaded) → ArePresent (net k) s.words loads → AreJudged (net k) loads → AreLive (net k) (unkilled (length (net k).edges) s.words)
   live_now s r loads present judged = let n : NetworkParts = net k in let E : ℕ = length n.edges in let ws : List ℕ = s.words in let U : List ℕ = unkilled E ws in record {
-    closed = all-from-members (λ e. (e < E) × (IsHullNumber n e ⊎ IsSupported n U e)) U (λ e has. let t = unkilled_contains E ws e has in (
+    closed = All-from_members (λ e. (e < E) × (IsHullNumber n e ⊎ IsSupported n U e)) U (λ e has. let t = unkilled_contains E ws e has in (
       t.0,
       ⊎_elim
           (λ (hull : IsHullNumber n e). inl hull)
@@ -101,7 +101,7 @@ module _ (k : About) where
           (judged e t.0),
     ));
     hull_edges = λ e low hull. dite (ℕ_discrete (mark_of ws e) 0) (λ z. contains_unkilled E ws e low z) (λ z. absurd (hull_not_dead n e low hull (r.safe e low (omega arith))));
-    greatest = λ fs closed. all-from-members (Contains U) fs (λ e has. let low = (All-contains (λ x. (x < E) × (IsHullNumber n x ⊎ IsSupported n fs x)) fs e closed has).0 in
+    greatest = λ fs closed. All-from_members (Contains U) fs (λ e has. let low = (All-contains (λ x. (x < E) × (IsHullNumber n x ⊎ IsSupported n fs x)) fs e closed has).0 in
         dite (ℕ_discrete (mark_of ws e) 0) (λ z. contains_unkilled E ws e low z) (λ z. absurd (r.safe e low (omega arith) fs closed has)));
   }
 

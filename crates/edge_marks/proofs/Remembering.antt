@@ -2,7 +2,7 @@
 use Rattle.std.proofs.Common.{◌≡◌, ℕ, zero, suc, ◌/◌, ◌≤◌, Bool, true, ◌||◌, List, [], ◌∷◌, ◌++◌, Contains, sym, refl, ap, ◌∙◌, subst, arith}
 use Rattle.std.proofs.lemmas.List.{append-nil, append_assoc}
 use Rattle.lmt_network.specs.Network.{NetworkParts}
-use Rattle.lmt_network.proofs.Picked.{contains-later}
+use Rattle.lmt_network.proofs.Picked.{Contains-later}
 use Rattle.edge_marks.specs.declared.view.Made.{Made}
 use Rattle.edge_marks.specs.declared.view.Made.TheVariants.{Load, Or, Add, Fork}
 use Rattle.edge_marks.specs.declared.view.Known.{Known}
@@ -62,8 +62,8 @@ remembers_pass n b f x ls old start mid new is low looked ended more = remembers
 
 pub remembers_kill : (i j e b x f : ℕ) (d : Known) → d.low ≤ b → Remembers d (ended_view j e f (marked_view e x (begun_view i e b d)))
 remembers_kill i j e b x f d low = record {
-  seen = λ g h. contains-later e g d.seen h;
-  tried = λ g h. contains-later e g d.tried h;
+  seen = λ g h. Contains-later e g d.seen h;
+  tried = λ g h. Contains-later e g d.tried h;
   settled = λ h. h;
   low = omega arith;
   steps = (

@@ -9,7 +9,7 @@ use lib.Seq.{set-get_or}
 use Rattle.atomic_table.specs.Table.{step, takes, Allows, Splits, opening}
 use Rattle.atomic_table.proofs.Lists.{at_set, set_else, at_snoc, some_there}
 use Rattle.lmt_network.specs.Network.{NetworkParts}
-use Rattle.lmt_network.proofs.Picked.{contains-nil}
+use Rattle.lmt_network.proofs.Picked.{Contains-nil}
 use Rattle.edge_marks.specs.declared.view.Known.{Known}
 use Rattle.edge_marks.specs.declared.view.About.{About}
 use Rattle.edge_marks.specs.Words.{bit_in, mark_of}
@@ -46,9 +46,9 @@ module _ (k : About) where
         spare = λ e _ _. no_mark ws blank e;
         each = λ j d h. subst (ViewHolds n ws) (one j d h) record {
           net_is = refl;
-          seen_killed = λ e has. absurd (contains-nil e has);
-          tried_below = λ e has. absurd (contains-nil e has);
-          tried_killed = λ e has _. absurd (contains-nil e has);
+          seen_killed = λ e has. absurd (Contains-nil e has);
+          tried_below = λ e has. absurd (Contains-nil e has);
+          tried_killed = λ e has _. absurd (Contains-nil e has);
           tried_once = λ i j d l m. absurd (omega arith);
           aim = tt;
           in_pass = tt;
@@ -123,8 +123,8 @@ module _ (k : About) where
         (λ (t : o ≡ e). subst (ViewHolds n s.words) t record {
           net_is = v.net_is;
           seen_killed = v.seen_killed;
-          tried_below = λ f has. absurd (contains-nil f has);
-          tried_killed = λ f has _. absurd (contains-nil f has);
+          tried_below = λ f has. absurd (Contains-nil f has);
+          tried_killed = λ f has _. absurd (Contains-nil f has);
           tried_once = λ i j d l m. absurd (omega arith);
           aim = tt;
           in_pass = tt;

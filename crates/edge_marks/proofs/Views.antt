@@ -4,8 +4,8 @@ use mathlib.Core.Logic.{dite}
 use native.Mathlib.Decide.{ℕ_discrete}
 use Rattle.lmt_network.specs.Network.{NetworkParts}
 use Rattle.lmt_network.specs.Numbers.{AreLive}
-use Rattle.lmt_network.proofs.Laws.{live_same}
-use Rattle.lmt_network.proofs.Picked.{contains-nil}
+use Rattle.lmt_network.proofs.NumberLaws.{live_same}
+use Rattle.lmt_network.proofs.Picked.{Contains-nil}
 use Rattle.edge_marks.specs.declared.view.Phase.{Phase}
 use Rattle.edge_marks.specs.declared.view.Phase.TheVariants.{Idle, Begun, Marked}
 use Rattle.edge_marks.specs.declared.view.Pass.{Pass}
@@ -28,7 +28,7 @@ contains_unkilled (suc k) ws e low is = let P : List ℕ → Type 0 = λ l. Cont
     (λ other. let below = contains_unkilled k ws e (omega arith) is in dite (ℕ_discrete (mark_of ws k) 0) (λ h. subst P (sym (unkilled_live k ws h)) (contains_more (unkilled k ws) k e below)) (λ h. subst P (sym (unkilled_dead k ws h)) below))
 
 pub unkilled_contains : (k : ℕ) (ws : List ℕ) (e : ℕ) → Contains (unkilled k ws) e → (e < k) × (mark_of ws e ≡ 0)
-unkilled_contains zero ws e h = absurd (contains-nil e h)
+unkilled_contains zero ws e h = absurd (Contains-nil e h)
 unkilled_contains (suc k) ws e h = let P : List ℕ → Type 0 = λ l. Contains l e in dite (ℕ_discrete (mark_of ws k) 0)
     (λ is. ⊎_elim (λ (t : Contains (unkilled k ws) e). let r = unkilled_contains k ws e t in let r₀ = r.0 in let low : e < suc k = omega arith in (low, r.1))
     (λ (same : k ≡ e). let low : e < suc k = omega arith in (low, ap (λ (i : ℕ). mark_of ws i) (sym same) ∙ is)) (contains_cut (unkilled k ws) k e (subst P (unkilled_live k ws is) h)))

@@ -15,10 +15,10 @@ use Rattle.exact_predicates.proofs.Equalities.{Edge-equal}
 use Rattle.exact_predicates.proofs.HullPairs.{pair_none, pair_once}
 use Rattle.exact_predicates.proofs.ListFacts.{AllPairs-head, AllPairs-tail}
 use Rattle.exact_predicates.proofs.Pairs.{hit_none, hit_same, hit_turned}
-use Rattle.lmt_network.specs.FlipMinimal.{IsEdgeOf}
+use Rattle.lmt_network.specs.Edges.{IsEdgeOf}
 use Rattle.lmt_network.specs.Prices.{Priced, is_on_hull, priced_edges}
 use Rattle.exact_predicates.proofs.SidesCounted.{count}
-use Rattle.lmt_network.proofs.Entries.{IsEntry, contains_map, is_on_hull_decides, map-contains}
+use Rattle.lmt_network.proofs.Entries.{IsEntry, contains_map, is_on_hull_decides, map_contains}
 use Rattle.lmt_network.proofs.Filters.{count_from, count_to}
 use Rattle.exact_predicates.proofs.ListOrder.{EdgePrecedes-irreflexive}
 
@@ -41,7 +41,7 @@ priced-once (p ∷ prices) x y rise =
     ⊎_elim
     (λ none. omega (arith, sum_by-cons (hit x y) (ends p) (map ends prices), one))
     (λ some.
-    let (q, has, is) = map-contains ends prices (x, y) (count_to (map ends prices) x y some) in
+    let (q, has, is) = map_contains ends prices (x, y) (count_to (map ends prices) x y some) in
     let same : q.edge ≡ p.edge = Edge-equal q.edge p.edge (ap (λ (s : ℕ × ℕ). s.0) is ∙ sym e.0) (ap (λ (s : ℕ × ℕ). s.1) is ∙ sym e.1) in
     let after = All-contains (EdgePrecedes p.edge) (priced_edges prices) q.edge (AllPairs-head EdgePrecedes p.edge (priced_edges prices) rise) (contains_map (λ r. r.edge) prices q has) in
     absurd (EdgePrecedes-irreflexive p.edge (subst (λ f. EdgePrecedes p.edge f) same after)))
@@ -49,8 +49,8 @@ priced-once (p ∷ prices) x y rise =
     (cases_lt (hit x y (ends p)) 1)
 
 -- an edge that is priced is so once
-pub entry-once : (prices : List Priced) (x y : ℕ) (p : Priced) → AllPairs EdgePrecedes (priced_edges prices) → IsEntry prices x y p → count (map ends prices) x y ≡ 1
-entry-once prices x y p rise h =
+pub entry_once : (prices : List Priced) (x y : ℕ) (p : Priced) → AllPairs EdgePrecedes (priced_edges prices) → IsEntry prices x y p → count (map ends prices) x y ≡ 1
+entry_once prices x y p rise h =
     let is : ends p ≡ (x, y) = ap (λ a. (a, p.edge.b)) h.a_is ∙ ap (λ b. (x, b)) h.b_is in
     omega (arith, priced-once prices x y rise, count_from (map ends prices) x y (subst (Contains (map ends prices)) is (contains_map ends prices p h.has)))
 
@@ -83,9 +83,9 @@ count_up (s ∷ es) x y l =
     )
 
 -- an edge of the hull is an edge of each triangulation once
-pub hull-once : (ps : List Point) (hull : List ℕ) (tris : List Tri) (x y : ℕ) → IsHull ps hull → IsTriangulation ps hull tris → x < y → is_on_hull hull x y ≡ true
+pub hull_once : (ps : List Point) (hull : List ℕ) (tris : List Tri) (x y : ℕ) → IsHull ps hull → IsTriangulation ps hull tris → x < y → is_on_hull hull x y ≡ true
     → count (map up (edges hull tris)) x y ≡ 1
-hull-once ps hull tris x y h t l on =
+hull_once ps hull tris x y h t l on =
     let total = count_up (edges hull tris) x y l in
     let sides = edge_count-sides ps hull tris x y h t l in
     ⊎_elim

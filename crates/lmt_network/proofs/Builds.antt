@@ -1,6 +1,7 @@
 -- What the parts of a network keep, from what a caller knows of them.
 use Rattle.std.proofs.Common.{◌≢◌, ℕ, ◌+◌, ◌≤◌, List, length, get_or, All, sym, ◌∙◌, inl, ⊎_elim, arith}
 use Rattle.std.proofs.lemmas.List.Elements.{Contains-get_or}
+use Rattle.mwt_base.specs.Limits.{most_edges, most_triangles}
 use Rattle.exact_predicates.specs.declared.diamond.Diamond.{Diamond}
 use Rattle.exact_predicates.specs.declared.diamond.Diamond.TheVariants.{Off, On}
 use Rattle.exact_predicates.specs.declared.edge.Edge.{Edge}
@@ -14,7 +15,8 @@ use Rattle.exact_predicates.proofs.Rings.{place_of_pair}
 use Rattle.lmt_network.specs.Live.{IsHullEdge}
 use Rattle.lmt_network.specs.Network.{NetworkParts, IsNetwork}
 use Rattle.lmt_network.specs.Tables.{HasSidesIn}
-use Rattle.lmt_network.proofs.FlipMinimal.{edge_between, hull_edge, pair_candidate}
+use Rattle.lmt_network.proofs.CandidateEdges.{pair_candidate}
+use Rattle.lmt_network.proofs.SideEdges.{edge_between, hull_edge}
 
 clear_candidate : (ps : List Point) (hull : List ℕ) (e : Edge) → IsHull ps hull → IsHullEdge hull e → IsCandidate ps hull Off e
 clear_candidate ps hull e hull_is h =
@@ -50,14 +52,14 @@ hull_there ps hull diamond es hull_is are k d k_in =
     at e u v joins p = hull_edge hull e u v joins p
 
 -- the sides of triangles over some edges
-pub sides-there : (ps : List Point) (es : List Edge) (ts : List Tri) → AreTrianglesOver ps es ts → All (HasSidesIn es) ts
-sides-there ps es ts are k d k_in =
+pub sides_there : (ps : List Point) (es : List Edge) (ts : List Tri) → AreTrianglesOver ps es ts → All (HasSidesIn es) ts
+sides_there ps es ts are k d k_in =
     let t = are.each k d k_in in
     record { ab = t.ab; bc = t.bc; ca = t.ca }
 
 -- so they make a network
 pub network_of : (n : NetworkParts) (diamond : Diamond) → IsPointSet n.points → IsHull n.points n.hull → AreCandidates n.points n.hull diamond n.edges → AreTrianglesOver n.points n.edges n.tris
-    → length n.edges ≤ 400000 → length n.tris ≤ 4000000 → IsNetwork n
+    → length n.edges ≤ most_edges → length n.tris ≤ most_triangles → IsNetwork n
 network_of n diamond points_are hull_is candidates triangles few_edges few_tris =
     record {
       points_are = points_are;

@@ -40,20 +40,20 @@ covered_drop f x y xs front back c =
     without u v = sum_by-append (hit u v) front back
 
 -- A sum over a list is at most that over one that covers it.
-pub sum-covered : (f : ℕ × ℕ → ℤ) (xs ys : List (ℕ × ℕ)) → AreCovered f xs ys → int_sum_by f xs ≤ℤ int_sum_by f ys
-sum-covered f [] ys c =
+pub sum_covered : (f : ℕ × ℕ → ℤ) (xs ys : List (ℕ × ℕ)) → AreCovered f xs ys → int_sum_by f xs ≤ℤ int_sum_by f ys
+sum_covered f [] ys c =
     int_sum_by-not_negative f ys
     (λ s m. by_lt_z (f s) (pos 0)
     (λ l. absurd (omega (arith, c.negative s.0 s.1 l, count_from ys s.0 s.1 m)))
     (λ l. l))
-sum-covered f ((x, y) ∷ xs) ys c =
+sum_covered f ((x, y) ∷ xs) ys c =
     by_lt_z (f (x, y)) (pos 0)
-    (λ l. both (sum-covered f xs) (omega (arith, c.negative x y l, sum_by-cons (hit x y) (x, y) xs, hit_same x y)))
+    (λ l. both (sum_covered f xs) (omega (arith, c.negative x y l, sum_by-cons (hit x y) (x, y) xs, hit_same x y)))
     (λ l. by_lt_z (pos 0) (f (x, y))
-    (λ k. both (sum-covered f xs) (omega (arith, c.positive x y k, sum_by-cons (hit x y) (x, y) xs, hit_same x y)))
+    (λ k. both (sum_covered f xs) (omega (arith, c.positive x y k, sum_by-cons (hit x y) (x, y) xs, hit_same x y)))
     (λ k.
     let zero : f (x, y) ≡ pos 0 = omega (arith, ints) in
-    omega (arith, ints, int_sum_by-cons f (x, y) xs, sum-covered f xs ys (covered_skip f x y xs ys zero c))))
+    omega (arith, ints, int_sum_by-cons f (x, y) xs, sum_covered f xs ys (covered_skip f x y xs ys zero c))))
   where
     both : ((zs : List (ℕ × ℕ)) → AreCovered f xs zs → int_sum_by f xs ≤ℤ int_sum_by f zs) → 1 ≤ count ys x y → int_sum_by f ((x, y) ∷ xs) ≤ℤ int_sum_by f ys
     both smaller some =
@@ -71,11 +71,11 @@ sum-covered f ((x, y) ∷ xs) ys c =
         )
 
 -- lists with the same pairs, each as often, have the same sums
-pub sum-same_counts : (f : ℕ × ℕ → ℤ) (xs ys : List (ℕ × ℕ)) → ((x y : ℕ) → count xs x y ≡ count ys x y) → int_sum_by f xs ≡ int_sum_by f ys
-sum-same_counts f xs ys same =
+pub sum_same_counts : (f : ℕ × ℕ → ℤ) (xs ys : List (ℕ × ℕ)) → ((x y : ℕ) → count xs x y ≡ count ys x y) → int_sum_by f xs ≡ int_sum_by f ys
+sum_same_counts f xs ys same =
     omega (
       arith,
       ints,
-      sum-covered f xs ys (record { negative = λ x y l. same x y; positive = λ x y l. omega (arith, same x y) }),
-      sum-covered f ys xs (record { negative = λ x y l. sym (same x y); positive = λ x y l. omega (arith, same x y) }),
+      sum_covered f xs ys (record { negative = λ x y l. same x y; positive = λ x y l. omega (arith, same x y) }),
+      sum_covered f ys xs (record { negative = λ x y l. sym (same x y); positive = λ x y l. omega (arith, same x y) }),
     )

@@ -7,23 +7,33 @@ use Rattle.exact_predicates.specs.Hull.{IsHull}
 use Rattle.exact_predicates.specs.Length.{IsNotLonger, edge_d2}
 use Rattle.exact_predicates.specs.Triangulation.{IsTriangulation, edges}
 use Rattle.exact_predicates.proofs.Flips.{IsNotLonger-flip, IsNotLonger-refl, IsNotLonger-trans, IsTriangulation-flip, sum_d2-flip}
-use Rattle.lmt_network.specs.Bounds.{MinimalTriangulation, SomeFlipMinimal}
+use Rattle.lmt_network.specs.FlipMinimal.{IsFlipMinimalTriangulation}
 use Rattle.lmt_network.proofs.Flippable.{IsFlippable, minimal_or_not}
 
--- a flip-minimal triangulation that is not longer
-abbrev Found : List Point → List ℕ → List Tri → Type 0
-Found ps hull tris = (found : MinimalTriangulation ps hull) × IsNotLonger ps (edges hull found.tris) (edges hull tris)
+-- a flip-minimal triangulation that is not longer than the triangulation first
+pub record Found (ps : List Point) (hull : List ℕ) (first : List Tri) : Type 0 where
+  pub tris : List Tri
+  pub flip_minimal : IsFlipMinimalTriangulation ps hull tris
+  pub not_longer : IsNotLonger ps (edges hull tris) (edges hull first)
 
 -- the triangulation itself
 here : (ps : List Point) (hull : List ℕ) (tris : List Tri) → IsHull ps hull → IsTriangulation ps hull tris → IsFlipMinimal ps hull tris → Found ps hull tris
 here ps hull tris h t m =
-    (record { tris = tris; is = record { hull_is = h; triangulation = t; minimal = m } }, IsNotLonger-refl ps (edges hull tris))
+    record {
+      tris = tris;
+      flip_minimal = record { hull_is = h; triangulation = t; minimal = m };
+      not_longer = IsNotLonger-refl ps (edges hull tris);
+    }
 
 -- one that is found after a flip
 after : (ps : List Point) (hull : List ℕ) (tris : List Tri) (f : IsFlippable ps tris) → IsHull ps hull → IsTriangulation ps hull tris → Found ps hull f.new → Found ps hull tris
 after ps hull tris f h t found =
     let shorter = IsNotLonger-flip ps hull tris f.new f.u f.v f.a f.b h t f.flip f.shortening in
-    (found.0, IsNotLonger-trans ps (edges hull found.0.tris) (edges hull f.new) (edges hull tris) found.1 shorter)
+    record {
+      tris = found.tris;
+      flip_minimal = found.flip_minimal;
+      not_longer = IsNotLonger-trans ps (edges hull found.tris) (edges hull f.new) (edges hull tris) found.not_longer shorter;
+    }
 
 -- by induction on the sum of the squared lengths
 descent : (n : ℕ) (ps : List Point) (hull : List ℕ) (tris : List Tri) → IsHull ps hull → IsTriangulation ps hull tris
@@ -42,5 +52,5 @@ descent (suc n) ps hull tris h t l =
     (descent n ps hull f.new h (IsTriangulation-flip ps hull tris f.new f.u f.v f.a f.b h t f.flip f.shortening) (omega (arith, l, falls))))
     (minimal_or_not ps hull tris t)
 
-pub minimal_law : SomeFlipMinimal
-minimal_law ps hull first h t = descent (sum_by (edge_d2 ps) (edges hull first)) ps hull first h t (omega arith)
+pub found_minimal : (ps : List Point) (hull : List ℕ) (first : List Tri) → IsHull ps hull → IsTriangulation ps hull first → Found ps hull first
+found_minimal ps hull first h t = descent (sum_by (edge_d2 ps) (edges hull first)) ps hull first h t (omega arith)

@@ -13,24 +13,24 @@ use Rattle.exact_predicates.proofs.ListFacts.{AllPairs-head, AllPairs-tail}
 use Rattle.exact_predicates.proofs.Pairs.{is_pair_decides, is_side_decides, is_side_same}
 use Rattle.lmt_network.specs.Prices.{Priced, priced_edges, unpriced, find_priced, priced, is_on_hull, anchors_of}
 use Rattle.exact_predicates.proofs.ListOrder.{EdgePrecedes-irreflexive}
-use Rattle.lmt_network.proofs.Picked.{contains-cases, contains-here, contains-later, contains-nil}
+use Rattle.lmt_network.proofs.Picked.{Contains-cases, Contains-here, Contains-later, Contains-nil}
 
 -- members of a mapped list
 pub contains_map : {X Y : Type 0} (g : X → Y) (xs : List X) (x : X) → Contains xs x → Contains (map g xs) (g x)
-contains_map g [] x h = absurd (contains-nil x h)
+contains_map g [] x h = absurd (Contains-nil x h)
 contains_map g (y ∷ ys) x h =
     ⊎_elim
-    (λ (e : y ≡ x). subst (λ z. Contains (map g (y ∷ ys)) (g z)) e (contains-here (g y) (map g ys)))
-    (λ (later : Contains ys x). contains-later (g y) (g x) (map g ys) (contains_map g ys x later))
-    (contains-cases y x ys h)
+    (λ (e : y ≡ x). subst (λ z. Contains (map g (y ∷ ys)) (g z)) e (Contains-here (g y) (map g ys)))
+    (λ (later : Contains ys x). Contains-later (g y) (g x) (map g ys) (contains_map g ys x later))
+    (Contains-cases y x ys h)
 
-pub map-contains : {X Y : Type 0} (g : X → Y) (xs : List X) (y : Y) → Contains (map g xs) y → (x : X) × Contains xs x × (g x ≡ y)
-map-contains g [] y h = absurd (contains-nil y h)
-map-contains g (x ∷ xs) y h =
+pub map_contains : {X Y : Type 0} (g : X → Y) (xs : List X) (y : Y) → Contains (map g xs) y → (x : X) × Contains xs x × (g x ≡ y)
+map_contains g [] y h = absurd (Contains-nil y h)
+map_contains g (x ∷ xs) y h =
     ⊎_elim
-    (λ (e : g x ≡ y). (x, contains-here x xs, e))
-    (λ (later : Contains (map g xs) y). let r = map-contains g xs y later in (r.0, contains-later x r.0 xs r.1, r.2))
-    (contains-cases (g x) y (map g xs) h)
+    (λ (e : g x ≡ y). (x, Contains-here x xs, e))
+    (λ (later : Contains (map g xs) y). let r = map_contains g xs y later in (r.0, Contains-later x r.0 xs r.1, r.2))
+    (Contains-cases (g x) y (map g xs) h)
 
 -- an entry of the edge from a to b
 pub record IsEntry (prices : List Priced) (a b : ℕ) (p : Priced) : Type 0 where
@@ -45,32 +45,32 @@ find_priced-cases (p ∷ prices) a b = at (is_side a b (p.edge.a, p.edge.b)) ref
   where
     at : (t : Bool) → is_side a b (p.edge.a, p.edge.b) ≡ t → IsEntry prices a b (find_priced prices a b) ⊎ (find_priced prices a b ≡ unpriced)
         → IsEntry (p ∷ prices) a b (cond t p (find_priced prices a b)) ⊎ (cond t p (find_priced prices a b) ≡ unpriced)
-    at true e rest = let ends = (is_side_decides a b p.edge.a p.edge.b).0 e in inl (record { has = contains-here p prices; a_is = ends.0; b_is = ends.1 })
+    at true e rest = let ends = (is_side_decides a b p.edge.a p.edge.b).0 e in inl (record { has = Contains-here p prices; a_is = ends.0; b_is = ends.1 })
     at false e rest =
         ⊎_elim
-        (λ (h : IsEntry prices a b (find_priced prices a b)). inl (record { has = contains-later p (find_priced prices a b) prices h.has; a_is = h.a_is; b_is = h.b_is }))
+        (λ (h : IsEntry prices a b (find_priced prices a b)). inl (record { has = Contains-later p (find_priced prices a b) prices h.has; a_is = h.a_is; b_is = h.b_is }))
         (λ (none : find_priced prices a b ≡ unpriced). inr none)
         rest
 
 -- where there is an entry, one is found
 pub find_priced-entry : (prices : List Priced) (p : Priced) → Contains prices p → IsEntry prices p.edge.a p.edge.b (find_priced prices p.edge.a p.edge.b)
-find_priced-entry [] p h = absurd (contains-nil p h)
+find_priced-entry [] p h = absurd (Contains-nil p h)
 find_priced-entry (q ∷ prices) p h = at (is_side p.edge.a p.edge.b (q.edge.a, q.edge.b)) refl (find_priced-entry prices p)
   where
     at : (t : Bool) → is_side p.edge.a p.edge.b (q.edge.a, q.edge.b) ≡ t → (Contains prices p → IsEntry prices p.edge.a p.edge.b (find_priced prices p.edge.a p.edge.b))
         → IsEntry (q ∷ prices) p.edge.a p.edge.b (cond t q (find_priced prices p.edge.a p.edge.b))
-    at true e rest = let ends = (is_side_decides p.edge.a p.edge.b q.edge.a q.edge.b).0 e in record { has = contains-here q prices; a_is = ends.0; b_is = ends.1 }
+    at true e rest = let ends = (is_side_decides p.edge.a p.edge.b q.edge.a q.edge.b).0 e in record { has = Contains-here q prices; a_is = ends.0; b_is = ends.1 }
     at false e rest =
         ⊎_elim
         (λ (is : q ≡ p). absurd (false≢true (sym e ∙ (ap (λ r. is_side p.edge.a p.edge.b (r.edge.a, r.edge.b)) is ∙ is_side_same p.edge.a p.edge.b))))
         (λ (later : Contains prices p).
         let k = rest later in
-        record { has = contains-later q (find_priced prices p.edge.a p.edge.b) prices k.has; a_is = k.a_is; b_is = k.b_is })
-        (contains-cases q p prices h)
+        record { has = Contains-later q (find_priced prices p.edge.a p.edge.b) prices k.has; a_is = k.a_is; b_is = k.b_is })
+        (Contains-cases q p prices h)
 
 -- each entry of an ascending list is found by its ends
 pub find_priced-own : (prices : List Priced) (p : Priced) → AllPairs EdgePrecedes (priced_edges prices) → Contains prices p → find_priced prices p.edge.a p.edge.b ≡ p
-find_priced-own [] p up h = absurd (contains-nil p h)
+find_priced-own [] p up h = absurd (Contains-nil p h)
 find_priced-own (q ∷ prices) p up h =
     at (is_side p.edge.a p.edge.b (q.edge.a, q.edge.b)) refl
     (find_priced-own prices p (AllPairs-tail EdgePrecedes q.edge (priced_edges prices) up))
@@ -85,12 +85,12 @@ find_priced-own (q ∷ prices) p up h =
         (λ (later : Contains prices p).
         let before = All-contains (EdgePrecedes q.edge) (priced_edges prices) p.edge (AllPairs-head EdgePrecedes q.edge (priced_edges prices) up) (contains_map (λ r. r.edge) prices p later) in
         absurd (EdgePrecedes-irreflexive p.edge (subst (λ e. EdgePrecedes e p.edge) same before)))
-        (contains-cases q p prices h)
+        (Contains-cases q p prices h)
     at false e rest =
         ⊎_elim
         (λ (is : q ≡ p). absurd (false≢true (sym e ∙ (ap (λ r. is_side p.edge.a p.edge.b (r.edge.a, r.edge.b)) is ∙ is_side_same p.edge.a p.edge.b))))
         (λ (later : Contains prices p). rest later)
-        (contains-cases q p prices h)
+        (Contains-cases q p prices h)
 
 -- the ends come in either order
 pub priced-comm : (prices : List Priced) (u v : ℕ) → priced prices v u ≡ priced prices u v

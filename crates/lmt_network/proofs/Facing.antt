@@ -30,8 +30,8 @@ side_counted : (tris : List Tri) (u x y : ℕ) → HasTri tris u x y → 1 ≤ s
 side_counted tris u x y (k, t, k_in, at_k, c) = side_of_member tris k t u x y k_in at_k c
 
 -- and a side that is counted is that of some triangle
-counted-side : (tris : List Tri) (u x : ℕ) → 1 ≤ side_count tris u x → (y : ℕ) × HasTri tris u x y
-counted-side tris u x l =
+counted_side : (tris : List Tri) (u x : ℕ) → 1 ≤ side_count tris u x → (y : ℕ) × HasTri tris u x y
+counted_side tris u x l =
     let (k, t, k_in, at_k, side) = side_from tris u x (count_to _ u x l) in
     (side.0, (k, t, k_in, at_k, side.1))
 
@@ -68,7 +68,7 @@ has_or_not : (tris : List Tri) (u x : ℕ) → ((y : ℕ) × HasTri tris u x y) 
 has_or_not tris u x =
     ⊎_elim
     (λ none. inr (λ h. let l = side_counted tris u x h.0 h.1 in absurd (omega arith)))
-    (λ l. inl (counted-side tris u x l))
+    (λ l. inl (counted_side tris u x l))
     (cases_lt (side_count tris u x) 1)
 
 -- the triangles at u, with the direction to v
@@ -84,7 +84,7 @@ fan ps hull tris u v hull_is is v_in =
       before = λ x y t l.
           let apart = (HasTri-bare ps hull tris u x y is t).0 in
           let back = other_way ps hull tris u x v hull_is is apart v_in (omega (arith, ints, orient_swapped_last (point_at ps u) (point_at ps v) (point_at ps x))) (side_counted tris u x y t) in
-          let (z, s) = counted-side tris x u back in
+          let (z, s) = counted_side tris x u back in
           (z, HasTri-turned tris x u z s);
     }
 
@@ -105,7 +105,7 @@ mirrored_fan ps hull tris u v hull_is is v_in =
           let s = HasTri-turned tris y x u (HasTri-turned tris u y x t) in
           let apart = (HasTri-bare ps hull tris x u y is s).0 in
           let back = other_way ps hull tris x u v hull_is is apart v_in (omega (arith, ints, orient_swapped (point_at ps u) (point_at ps x) (point_at ps v))) (side_counted tris x u y s) in
-          counted-side tris u x back;
+          counted_side tris u x back;
     }
 
 -- some triangle at u has v in its angle

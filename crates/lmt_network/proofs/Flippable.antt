@@ -16,7 +16,7 @@ use Rattle.exact_predicates.proofs.Flips.{apart_differ}
 use Rattle.lmt_network.proofs.Entries.{is_on_hull_decides}
 use Rattle.lmt_network.proofs.Filters.{count_from, count_to, filter-from, side_from}
 use Rattle.exact_predicates.proofs.Corners.{turned_corners}
-use Rattle.lmt_network.proofs.Picked.{contains-here, contains-later}
+use Rattle.lmt_network.proofs.Picked.{Contains-here, Contains-later}
 use Rattle.exact_predicates.proofs.SidesCounted.{inner_sides}
 use Rattle.lmt_network.proofs.Slacks.{inner_off}
 
@@ -28,9 +28,9 @@ all_or P Q (x ∷ xs) each =
     (λ (first : P x). ⊎_elim
     (λ (rest : All P xs). inl (All-cons P x xs first rest))
     (λ (q : Q). inr q)
-    (all_or P Q xs (λ y h. each y (contains-later x y xs h))))
+    (all_or P Q xs (λ y h. each y (Contains-later x y xs h))))
     (λ (q : Q). inr q)
-    (each x (contains-here x xs))
+    (each x (Contains-here x xs))
 
 -- the triangle with these corners in this turn
 tri_of : (u v w : ℕ) → u ≢ v → v ≢ w → w ≢ u → (t : Tri) × HasCorners t u v w

@@ -5,13 +5,14 @@ use Rattle.std.proofs.lemmas.Bool.{false≢true, cases_lt, cases_eq}
 use Rattle.std.proofs.lemmas.List.{get_or_default, length-replicate, get_or-replicate, length-set, get_or-set_same, get_or-set_other}
 use Rattle.exact_predicates.specs.declared.edge.Edge.{Edge}
 use Rattle.exact_predicates.specs.Candidates.{EdgePrecedes, Joins}
+use Rattle.exact_predicates.specs.Hull.{IsHullPair, ring_pairs}
 use Rattle.exact_predicates.proofs.Equalities.{Joins-only, Joins-ends, Joins-comm}
-use Rattle.exact_predicates.proofs.Rings.{IsNext, place_of_pair, pair_of_place}
+use Rattle.exact_predicates.proofs.Rings.{length-ring}
 use Rattle.lmt_network.specs.Live.{IsHullEdge}
 use Rattle.lmt_network.specs.Network.{NetworkParts, edge_at}
 use Rattle.lmt_network.specs.Numbers.{IsHullNumber}
 use Rattle.lmt_network.specs.Tables.{AreHullFlags}
-use Rattle.lmt_network.proofs.FlipMinimal.{hull_edge}
+use Rattle.lmt_network.proofs.SideEdges.{hull_edge}
 use Rattle.lmt_network.proofs.Naming.{edge_at-once}
 
 -- what a flag says
@@ -26,15 +27,7 @@ flag_read n flags e r are e_in is =
 pub record AreFlagsUpto (hull : List ℕ) (es : List Edge) (i : ℕ) (flags : List Bool) : Type 0 where
   pub as_many : length flags ≡ length es
   pub only : (e : ℕ) → e < length es → slice_index_or flags e false ≡ true → HoldsAt (IsHullEdge hull) es e
-  pub each : (k u v : ℕ) → k < i → slice_index hull k ≡ u → IsNext hull k v → (e : ℕ) → e < length es → HoldsAt (λ x. Joins x u v) es e → slice_index_or flags e false ≡ true
-
-pub flags_none : (hull : List ℕ) (es : List Edge) (flags : List Bool) → flags ≡ replicate (length es) false → AreFlagsUpto hull es 0 flags
-flags_none hull es flags is =
-    rw is (record {
-      as_many = length-replicate (length es) false;
-      only = λ e e_in set. absurd (false≢true (sym (get_or-replicate (length es) e false false e_in) ∙ set));
-      each = λ k u v k_in. absurd (omega arith);
-    })
+  pub each : (k u v : ℕ) → k < i → HoldsAt (λ s. s ≡ (u, v)) (ring_pairs hull) k → (e : ℕ) → e < length es → HoldsAt (λ x. Joins x u v) es e → slice_index_or flags e false ≡ true
 
 -- the edge with two ends has one number
 joins_once : (es : List Edge) (u v i j : ℕ) → AllPairs EdgePrecedes es → i < length es → j < length es → HoldsAt (λ x. Joins x u v) es i → HoldsAt (λ x. Joins x u v) es j → i ≡ j
@@ -42,38 +35,30 @@ joins_once es u v i j up i_in j_in h k =
     let n : NetworkParts = record { points = []; hull = []; edges = es; tris = [] } in
     edge_at-once n i j up i_in j_in (Joins-only (edge_at n i) (edge_at n j) u v (h _) (k _))
 
-pub flags_more : (hull : List ℕ) (es : List Edge) (i : ℕ) (flags : List Bool) (v e : ℕ) → AllPairs EdgePrecedes es → AreFlagsUpto hull es i flags → i < length hull → IsNext hull i v
-    → e < length es → HoldsAt (λ x. Joins x (slice_index hull i) v) es e → AreFlagsUpto hull es (i + 1) (set flags e true)
-flags_more hull es i flags v e up are i_in next e_in joins =
+pub flags_more : (hull : List ℕ) (es : List Edge) (i : ℕ) (flags : List Bool) (u v e : ℕ) → AllPairs EdgePrecedes es → AreFlagsUpto hull es i flags → i < length (ring_pairs hull)
+    → HoldsAt (λ s. s ≡ (u, v)) (ring_pairs hull) i → e < length es → HoldsAt (λ x. Joins x u v) es e → AreFlagsUpto hull es (i + 1) (set flags e true)
+flags_more hull es i flags u v e up are i_in pair e_in joins =
     let many = are.as_many in
     record {
       as_many = omega (arith, length-set flags e true, many);
       only = λ f f_in is_set. ⊎_elim
           (λ (same : f ≡ e).
-          let here : HoldsAt (IsHullEdge hull) es e = λ d. hull_edge hull (slice_index_or es e d) (slice_index hull i) v (joins d) (pair_of_place hull (slice_index hull i) v i i_in refl next) in
+          let here : HoldsAt (IsHullEdge hull) es e = λ d. hull_edge hull (slice_index_or es e d) u v (joins d) (i, i_in, pair (u, v)) in
           subst (HoldsAt (IsHullEdge hull) es) (sym same) here)
           (λ (other : f ≢ e). are.only f f_in (sym (get_or-set_other flags e f true false other) ∙ is_set))
           (cases_eq f e);
-      each = λ k u w k_in at_k follows f f_in ends. ⊎_elim
-          (λ (same : f ≡ e). ap (λ x. slice_index_or (set flags e true) x false) same ∙ get_or-set_same flags e true false (omega arith))
+      each = λ k x y k_in at_k f f_in ends. ⊎_elim
+          (λ (same : f ≡ e). ap (λ z. slice_index_or (set flags e true) z false) same ∙ get_or-set_same flags e true false (omega arith))
           (λ (other : f ≢ e). ⊎_elim
-          (λ (low : k < i). get_or-set_other flags e f true false other ∙ are.each k u w low at_k follows f f_in ends)
+          (λ (low : k < i). get_or-set_other flags e f true false other ∙ are.each k x y low at_k f f_in ends)
           (λ (high : i ≤ k).
           let k_is : k ≡ i = omega arith in
-          let u_is : u ≡ slice_index hull i = sym at_k ∙ ap (slice_index hull) k_is in
-          let w_is : w ≡ v = next-once hull i w v (subst (λ (x : ℕ). IsNext hull x w) k_is follows) next in
-          let ends_f : HoldsAt (λ x. Joins x (slice_index hull i) v) es f = subst (λ (x : ℕ). HoldsAt (λ y. Joins y x v) es f) u_is (subst (λ (x : ℕ). HoldsAt (λ y. Joins y u x) es f) w_is ends) in
-          absurd (other (joins_once es (slice_index hull i) v f e up f_in e_in ends_f joins)))
+          let same : (x, y) ≡ (u, v) = sym (at_k (u, v)) ∙ (ap (λ z. slice_index_or (ring_pairs hull) z (u, v)) k_is ∙ pair (u, v)) in
+          let ends_f : HoldsAt (λ z. Joins z u v) es f = subst (λ (s : ℕ × ℕ). HoldsAt (λ z. Joins z s.0 s.1) es f) same ends in
+          absurd (other (joins_once es u v f e up f_in e_in ends_f joins)))
           (cases_lt k i))
           (cases_eq f e);
     }
-  where
-    next-once : (h : List ℕ) (k x y : ℕ) → IsNext h k x → IsNext h k y → x ≡ y
-    next-once h k x y a b =
-        ⊎_elim
-        (λ p. ⊎_elim (λ q. sym p.1 ∙ q.1) (λ q. absurd (omega (arith, p.0, q.0))) b)
-        (λ p. ⊎_elim (λ q. absurd (omega (arith, p.0, q.0))) (λ q. sym p.1 ∙ q.1) b)
-        a
 
 pub flags_all : (hull : List ℕ) (es : List Edge) (i : ℕ) (flags : List Bool) → AreFlagsUpto hull es i flags → length hull ≤ i → AreHullFlags hull es flags
 flags_all hull es i flags are all =
@@ -83,11 +68,13 @@ flags_all hull es i flags are all =
           let edge = slice_index_or es e d in (
             λ is_set. are.only e e_in is_set d,
             λ h. ⊎_elim
-                (λ pair. let (k, k_in, at_k, next) = place_of_pair hull edge.a edge.b pair in are.each k edge.a edge.b (omega arith) at_k next e e_in (at-ends edge.a edge.b e d e_in (Joins-ends edge)))
-                (λ pair. let (k, k_in, at_k, next) = place_of_pair hull edge.b edge.a pair in are.each k edge.b edge.a (omega arith) at_k next e e_in (at-ends edge.b edge.a e d e_in (Joins-comm edge edge.a edge.b (Joins-ends edge))))
+                (λ pair. at edge.a edge.b e d e_in pair (Joins-ends edge))
+                (λ pair. at edge.b edge.a e d e_in pair (Joins-comm edge edge.a edge.b (Joins-ends edge)))
                 h,
           );
     }
   where
-    at-ends : (u v : ℕ) (e : ℕ) (d : Edge) → e < length es → Joins (slice_index_or es e d) u v → HoldsAt (λ x. Joins x u v) es e
-    at-ends u v e d e_in joins = λ x. subst (λ (y : Edge). Joins y u v) (get_or_default es e d x e_in) joins
+    at : (u v e : ℕ) (d : Edge) → e < length es → IsHullPair hull u v → Joins (slice_index_or es e d) u v → slice_index_or flags e false ≡ true
+    at u v e d e_in (k, k_in, at_k) joins =
+        are.each k u v (omega (arith, length-ring hull)) (λ s. get_or_default (ring_pairs hull) k s (u, v) k_in ∙ at_k) e e_in
+        (λ x. subst (λ (y : Edge). Joins y u v) (get_or_default es e d x e_in) joins)

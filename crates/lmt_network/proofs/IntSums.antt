@@ -3,7 +3,7 @@ use Rattle.std.proofs.Common.{◌≡◌, ℕ, List, [], ◌∷◌, ◌++◌, map
 use Rattle.std.proofs.lemmas.Int.{ints}
 use Rattle.std.proofs.lemmas.List.Sums.{sum_by-cons}
 use Rattle.lmt_network.specs.Prices.{int_sum_by}
-use Rattle.lmt_network.proofs.Picked.{contains-cases, contains-here, contains-later, contains-nil}
+use Rattle.lmt_network.proofs.Picked.{Contains-cases, Contains-here, Contains-later, Contains-nil}
 
 module _ {X : Type 0} where
   int_sum_by-from : (f : X → ℤ) (a : ℤ) (xs : List X) → fold (λ s x. s +ℤ f x) a xs ≡ a +ℤ int_sum_by f xs
@@ -28,8 +28,8 @@ module _ {X : Type 0} where
         ints,
         int_sum_by-cons f x xs,
         int_sum_by-cons g x xs,
-        same x (contains-here x xs),
-        int_sum_by-same f g xs (λ y h. same y (contains-later x y xs h)),
+        same x (Contains-here x xs),
+        int_sum_by-same f g xs (λ y h. same y (Contains-later x y xs h)),
       )
 
   -- two measures together
@@ -59,18 +59,18 @@ module _ {X : Type 0} where
         arith,
         ints,
         int_sum_by-cons f x xs,
-        h x (contains-here x xs),
-        int_sum_by-not_negative f xs (λ y m. h y (contains-later x y xs m)),
+        h x (Contains-here x xs),
+        int_sum_by-not_negative f xs (λ y m. h y (Contains-later x y xs m)),
       )
 
   -- what stands before and behind a member
   pub around : (xs : List X) (x : X) → Contains xs x → (front : List X) × (back : List X) × (xs ≡ front ++ x ∷ back)
-  around [] x h = absurd (contains-nil x h)
+  around [] x h = absurd (Contains-nil x h)
   around (y ∷ ys) x h =
       ⊎_elim
       (λ (e : y ≡ x). ([], ys, ap (λ z. z ∷ ys) e))
       (λ (later : Contains ys x). let r = around ys x later in (y ∷ r.0, r.1, ap (λ zs. y ∷ zs) r.2))
-      (contains-cases y x ys h)
+      (Contains-cases y x ys h)
 
 pub int_sum_by-map : {X Y : Type 0} (f : Y → ℤ) (g : X → Y) (xs : List X) → int_sum_by f (map g xs) ≡ int_sum_by (λ x. f (g x)) xs
 int_sum_by-map f g [] = refl

@@ -2,6 +2,7 @@ pub mod Anchors
 pub mod Angles
 pub mod BoundLaws
 pub mod Builds
+pub mod CandidateEdges
 pub mod CountedSums
 pub mod Descent
 pub mod EdgeLists
@@ -13,12 +14,12 @@ pub mod FlipMinimal
 pub mod Flippable
 pub mod HullFlags
 pub mod IntSums
-pub mod Laws
 pub mod LiveSuffices
 pub mod LowerBounds
 pub mod MinimalPairs
 pub mod Minimum
 pub mod Naming
+pub mod NumberLaws
 pub mod Passes
 pub mod Picked
 pub mod PriceTables
@@ -26,10 +27,10 @@ pub mod Rows
 pub mod Segments
 pub mod Settling
 pub mod Shares
+pub mod SideEdges
 pub mod SideKeys
-pub mod SkeletonExample
 pub mod Skeletons
 pub mod Slacks
-pub mod Star
 pub mod Starts
 pub mod Tallies
+pub mod Weights

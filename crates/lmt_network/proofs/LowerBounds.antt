@@ -8,12 +8,12 @@ use Rattle.exact_predicates.specs.declared.point.Point.{Point}
 use Rattle.exact_predicates.specs.declared.tri.Tri.{Tri}
 use Rattle.exact_predicates.specs.Hull.{IsHull}
 use Rattle.exact_predicates.specs.Triangulation.{IsTriangulation, edges}
-use Rattle.lmt_network.specs.Bounds.{BoundIsBelow}
-use Rattle.lmt_network.specs.FlipMinimal.{IsEdgeOf}
-use Rattle.lmt_network.specs.Prices.{ArePrices, Priced, anchors_of, find_priced, is_on_hull, unpriced}
-use Rattle.lmt_network.proofs.Anchors.{edge_counted, ends, entry-once, hull-once, up}
+use Rattle.length_enclosure.specs.Enclosure.{lo}
+use Rattle.lmt_network.specs.Edges.{IsEdgeOf, HasEdgesIn}
+use Rattle.lmt_network.specs.Prices.{ArePrices, IsFeasible, Priced, anchors_of, bound, find_priced, is_on_hull, priced_edges, unpriced}
+use Rattle.lmt_network.proofs.Anchors.{edge_counted, ends, entry_once, hull_once, up}
 use Rattle.exact_predicates.proofs.SidesCounted.{count}
-use Rattle.lmt_network.proofs.CountedSums.{AreCovered, sum-covered}
+use Rattle.lmt_network.proofs.CountedSums.{AreCovered, sum_covered}
 use Rattle.lmt_network.proofs.Entries.{IsEntry, find_priced-cases, find_priced-own}
 use Rattle.lmt_network.proofs.IntSums.{int_sum_by-map, int_sum_by-same}
 use Rattle.lmt_network.proofs.Slacks.{anchors_below}
@@ -80,12 +80,12 @@ covered ps hull anchored prices tris are h t each =
     }
   where
     once : (x y : ℕ) (c : IsCounted hull anchored prices x y) → count (map ends prices) x y ≡ 1
-    once x y c = entry-once prices x y c.p are.ascending c.entry
+    once x y c = entry_once prices x y c.p are.ascending c.entry
 
     same : (x y : ℕ) (c : IsCounted hull anchored prices x y) → is_on_hull hull x y ≡ true → count (map ends prices) x y ≡ count (map up (edges hull tris)) x y
     same x y c on =
         let rise : x < y = omega (arith, c.p.edge.ascending, c.entry.a_is, c.entry.b_is) in
-        omega (arith, once x y c, hull-once ps hull tris x y h t rise on)
+        omega (arith, once x y c, hull_once ps hull tris x y h t rise on)
 
     there : (x y : ℕ) (c : IsCounted hull anchored prices x y) → Contains anchored c.p.edge → 1 ≤ count (map up (edges hull tris)) x y
     there x y c has =
@@ -93,7 +93,10 @@ covered ps hull anchored prices tris are h t each =
         subst (λ b. 1 ≤ count (map up (edges hull tris)) x b) c.entry.b_is
         (subst (λ a. 1 ≤ count (map up (edges hull tris)) a c.p.edge.b) c.entry.a_is (edge_counted hull tris c.p.edge edge))
 
-pub below_law : BoundIsBelow
+-- A triangulation that has priced edges alone, and all anchored ones, is at least as long as the bound.
+pub below_law : (ps : List Point) (hull : List ℕ) (anchored : List Edge) (prices : List Priced) (tris : List Tri) → ArePrices anchored prices → IsFeasible ps hull prices
+    → IsHull ps hull → IsTriangulation ps hull tris → HasEdgesIn hull tris (priced_edges prices) → All (IsEdgeOf hull tris) anchored
+    → bound hull prices ≤ℤ pos (lo ps (edges hull tris))
 below_law ps hull anchored prices tris are feasible h t live each =
     let es = edges hull tris in
     let a = anchors_at hull prices in
@@ -101,7 +104,7 @@ below_law ps hull anchored prices tris are feasible h t live each =
       arith,
       ints,
       anchors_below ps hull prices tris feasible h t live,
-      sum-covered a (map ends prices) (map up es) (covered ps hull anchored prices tris are h t each),
+      sum_covered a (map ends prices) (map up es) (covered ps hull anchored prices tris are h t each),
       int_sum_by-map a up es,
       int_sum_by-map a ends prices,
       int_sum_by-same (λ p. a (ends p)) (anchors_of hull) prices (λ p m. ap (anchors_of hull) (find_priced-own prices p are.ascending m)),

@@ -8,13 +8,15 @@ use Rattle.exact_predicates.specs.declared.edge.Edge.{Edge}
 use Rattle.exact_predicates.specs.declared.tri.Tri.{Tri}
 use Rattle.exact_predicates.specs.Triangulation.{HasCorners}
 use Rattle.exact_predicates.specs.Candidates.{EdgePrecedes, Joins, HasEdge, IsCandidate, AreCandidates, IsEmptyOver}
+use Rattle.exact_predicates.proofs.ListOrder.{EdgePrecedes-irreflexive}
 use Rattle.exact_predicates.proofs.Equalities.{HasEdge-Contains, Contains-HasEdge}
 use Rattle.exact_predicates.proofs.ListOrder.{EdgePrecedes-irreflexive}
 use Rattle.lmt_network.specs.Live.{IsHullEdge, HasSupport, IsClosed, IsLive}
 use Rattle.lmt_network.specs.Flags.{live_numbers, live_edges}
 use Rattle.lmt_network.specs.Network.{NetworkParts, IsNetwork, edge_at, tri_at}
+use Rattle.lmt_network.specs.NumberLaws.{DeadIsInNone, LiveNumbersAreLive}
 use Rattle.lmt_network.specs.Numbers.{IsHullNumber, IsNumberOf, IsSideOf, IsSupported, AreClosed, AreLive}
-use Rattle.lmt_network.proofs.Picked.{all-from-members, contains-here, contains-later, contains-cases, contains-nil, picked_in, picked_from, AllPairs-picked, flag_in, live_from_flag, flag_from_live}
+use Rattle.lmt_network.proofs.Picked.{All-from_members, Contains-here, Contains-later, Contains-cases, Contains-nil, picked_in, picked_from, AllPairs-picked, flag_in, live_from_flag, flag_from_live}
 
 -- fs are the edges with the numbers es
 pub record AreNamed (n : NetworkParts) (es : List ℕ) (fs : List Edge) : Type 0 where
@@ -43,10 +45,10 @@ pub numbers_of : (n : NetworkParts) (fs : List Edge) → AllPairs EdgePrecedes n
 numbers_of n [] up known = (
   [],
   record {
-    in_range = λ e h. absurd (contains-nil e h);
-    there = λ e h. absurd (contains-nil e h);
-    back = λ e e_in h. absurd (contains-nil (edge_at n e) h);
-    known = λ f h. absurd (contains-nil f h);
+    in_range = λ e h. absurd (Contains-nil e h);
+    there = λ e h. absurd (Contains-nil e h);
+    back = λ e e_in h. absurd (Contains-nil (edge_at n e) h);
+    known = λ f h. absurd (Contains-nil f h);
   },
 )
 numbers_of n (f ∷ fs) up known =
@@ -55,15 +57,15 @@ numbers_of n (f ∷ fs) up known =
     let is : edge_at n first.0 ≡ f = read_member n.edges f _ first in (
       first.0 ∷ rest.0,
       record {
-        in_range = λ e h. ⊎_elim (λ (p : first.0 ≡ e). subst (λ (x : ℕ). x < length n.edges) p first.1) (λ (t : Contains rest.0 e). rest.1.in_range e t) (contains-cases first.0 e rest.0 h);
+        in_range = λ e h. ⊎_elim (λ (p : first.0 ≡ e). subst (λ (x : ℕ). x < length n.edges) p first.1) (λ (t : Contains rest.0 e). rest.1.in_range e t) (Contains-cases first.0 e rest.0 h);
         there = λ e h. ⊎_elim
-            (λ (p : first.0 ≡ e). subst (λ (x : Edge). Contains (f ∷ fs) x) (sym is ∙ ap (edge_at n) p) (contains-here f fs))
-            (λ (t : Contains rest.0 e). contains-later f (edge_at n e) fs (rest.1.there e t))
-            (contains-cases first.0 e rest.0 h);
+            (λ (p : first.0 ≡ e). subst (λ (x : Edge). Contains (f ∷ fs) x) (sym is ∙ ap (edge_at n) p) (Contains-here f fs))
+            (λ (t : Contains rest.0 e). Contains-later f (edge_at n e) fs (rest.1.there e t))
+            (Contains-cases first.0 e rest.0 h);
         back = λ e e_in h. ⊎_elim
-            (λ (p : f ≡ edge_at n e). subst (λ (x : ℕ). Contains (first.0 ∷ rest.0) x) (edge_at-once n first.0 e up first.1 e_in (is ∙ p)) (contains-here first.0 rest.0))
-            (λ (t : Contains fs (edge_at n e)). contains-later first.0 e rest.0 (rest.1.back e e_in t))
-            (contains-cases f (edge_at n e) fs h);
+            (λ (p : f ≡ edge_at n e). subst (λ (x : ℕ). Contains (first.0 ∷ rest.0) x) (edge_at-once n first.0 e up first.1 e_in (is ∙ p)) (Contains-here first.0 rest.0))
+            (λ (t : Contains fs (edge_at n e)). Contains-later first.0 e rest.0 (rest.1.back e e_in t))
+            (Contains-cases f (edge_at n e) fs h);
         known = λ g h. All-contains (Contains n.edges) (f ∷ fs) g known h;
       },
     )
@@ -120,7 +122,7 @@ support_number n es fs e net named s =
 -- a closed list is closed by number
 pub closed_numbers : (n : NetworkParts) (diamond : Diamond) (es : List ℕ) (fs : List Edge) → IsNetwork n → AreNamed n es fs → IsClosed n.points n.hull diamond fs → AreClosed n es
 closed_numbers n diamond es fs net named closed =
-    all-from-members (λ x. (x < length n.edges) × (IsHullNumber n x ⊎ IsSupported n es x)) es
+    All-from_members (λ x. (x < length n.edges) × (IsHullNumber n x ⊎ IsSupported n es x)) es
     (λ e has. (
       named.in_range e has,
       ⊎_elim
@@ -149,8 +151,8 @@ over_named n es fs e t net named t_in has others =
         HasEdge-Contains fs (edge_at n k) u v named_k.1 (named.there k has_k)
 
 -- a supported number is a supported edge
-number-support : (n : NetworkParts) (es : List ℕ) (fs : List Edge) (e : ℕ) → IsNetwork n → AreNamed n es fs → Contains es e → IsSupported n es e → HasSupport n.points fs (edge_at n e)
-number-support n es fs e net named has s =
+number_support : (n : NetworkParts) (es : List ℕ) (fs : List Edge) (e : ℕ) → IsNetwork n → AreNamed n es fs → Contains es e → IsSupported n es e → HasSupport n.points fs (edge_at n e)
+number_support n es fs e net named has s =
     record {
       left = tri_at n s.l;
       right = tri_at n s.r;
@@ -169,21 +171,21 @@ pub closed_edges : (n : NetworkParts) (diamond : Diamond) (es : List ℕ) (fs : 
 closed_edges n diamond es fs net candidates named up closed =
     record {
       ascending = up;
-      candidates = all-from-members (IsCandidate n.points n.hull diamond) fs (λ f has. All-contains (IsCandidate n.points n.hull diamond) n.edges f candidates.each (named.known f has));
-      supported = all-from-members (λ x. IsHullEdge n.hull x ⊎ HasSupport n.points fs x) fs (λ f has.
+      candidates = All-from_members (IsCandidate n.points n.hull diamond) fs (λ f has. All-contains (IsCandidate n.points n.hull diamond) n.edges f candidates.each (named.known f has));
+      supported = All-from_members (λ x. IsHullEdge n.hull x ⊎ HasSupport n.points fs x) fs (λ f has.
           let k = named.known f has in
           let is : edge_at n k.0 ≡ f = read_member n.edges f _ k in
           let has_k : Contains es k.0 = named.back k.0 k.1 (subst (Contains fs) (sym is) has) in
           subst (λ (x : Edge). IsHullEdge n.hull x ⊎ HasSupport n.points fs x) is (⊎_elim
           (λ (h : IsHullNumber n k.0). inl h)
-          (λ (s : IsSupported n es k.0). inr (number-support n es fs k.0 net named has_k s))
+          (λ (s : IsSupported n es k.0). inr (number_support n es fs k.0 net named has_k s))
           (All-contains (λ x. (x < length n.edges) × (IsHullNumber n x ⊎ IsSupported n es x)) es k.0 closed has_k).1));
     }
 
 -- the edges of the live numbers, ascending, are the live list
-pub live-edges : (n : NetworkParts) (diamond : Diamond) (es : List ℕ) (fs : List Edge) → IsNetwork n → AreCandidates n.points n.hull diamond n.edges → AreNamed n es fs → AllPairs EdgePrecedes fs
+pub live_edges_list : (n : NetworkParts) (diamond : Diamond) (es : List ℕ) (fs : List Edge) → IsNetwork n → AreCandidates n.points n.hull diamond n.edges → AreNamed n es fs → AllPairs EdgePrecedes fs
     → AreLive n es → IsLive n.points n.hull diamond fs
-live-edges n diamond es fs net candidates named up live =
+live_edges_list n diamond es fs net candidates named up live =
     record {
       closed = closed_edges n diamond es fs net candidates named up live.closed;
       hull_edges = λ f hull.
@@ -191,10 +193,10 @@ live-edges n diamond es fs net candidates named up live =
           let is : edge_at n k.0 ≡ f = read_member n.edges f _ k in
           subst (Contains fs) is (named.there k.0 (live.hull_edges k.0 k.1 (subst (IsHullEdge n.hull) (sym is) hull)));
       greatest = λ gs closed.
-          let known = all-from-members (Contains n.edges) gs (λ g has. candidates.all g (All-contains (IsCandidate n.points n.hull diamond) gs g closed.candidates has)) in
+          let known = All-from_members (Contains n.edges) gs (λ g has. candidates.all g (All-contains (IsCandidate n.points n.hull diamond) gs g closed.candidates has)) in
           let numbers = numbers_of n gs net.ascending known in
           let every = live.greatest numbers.0 (closed_numbers n diamond numbers.0 gs net numbers.1 closed) in
-          all-from-members (Contains fs) gs (λ g has.
+          All-from_members (Contains fs) gs (λ g has.
           let k = All-contains (Contains n.edges) gs g known has in
           let is : edge_at n k.0 ≡ g = read_member n.edges g _ k in
           subst (Contains fs) is (named.there k.0 (All-contains (Contains es) numbers.0 k.0 every (numbers.1.back k.0 k.1 (subst (Contains gs) (sym is) has)))));
@@ -214,8 +216,14 @@ flags_named n flags up one_each =
     }
 
 -- so the live edges, as a list, are the live list
-pub live_edges-live : (n : NetworkParts) (diamond : Diamond) (flags : List Bool) → IsNetwork n → length flags ≡ length n.edges → AreCandidates n.points n.hull diamond n.edges
-    → AreLive n (live_numbers flags) → IsLive n.points n.hull diamond (live_edges n flags)
-live_edges-live n diamond flags net one_each candidates live =
-    live-edges n diamond (live_numbers flags) (live_edges n flags) net candidates (flags_named n flags net.ascending one_each)
+pub live_numbers_law : LiveNumbersAreLive
+live_numbers_law n diamond flags net candidates one_each live =
+    live_edges_list n diamond (live_numbers flags) (live_edges n flags) net candidates (flags_named n flags net.ascending one_each)
     (AllPairs-picked EdgePrecedes flags n.edges net.ascending) live
+
+-- an edge that a closed list has is not dead
+pub dead_law : DeadIsInNone
+dead_law n diamond e fs net candidates e_in dead closed has =
+    let known = All-from_members (Contains n.edges) fs (λ f in_fs. candidates.all f (All-contains (IsCandidate n.points n.hull diamond) fs f closed.candidates in_fs)) in
+    let numbers = numbers_of n fs net.ascending known in
+    dead numbers.0 (closed_numbers n diamond numbers.0 fs net numbers.1 closed) (numbers.1.back e e_in has)

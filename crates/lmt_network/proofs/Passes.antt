@@ -7,8 +7,8 @@ use Rattle.std.proofs.lemmas.List.Sums.{sum_by-set}
 use Rattle.lmt_network.specs.Network.{NetworkParts}
 use Rattle.lmt_network.specs.Flags.{live_numbers}
 use Rattle.lmt_network.specs.Numbers.{IsHullNumber, IsSupported, AreClosed, IsDead}
-use Rattle.lmt_network.proofs.Laws.{dead_if_unsupported}
-use Rattle.lmt_network.proofs.Picked.{all-from-members, live_from_flag, flag_from_live, flag_in}
+use Rattle.lmt_network.proofs.NumberLaws.{dead_if_unsupported}
+use Rattle.lmt_network.proofs.Picked.{All-from_members, live_from_flag, flag_from_live, flag_in}
 
 -- every closed edge is live
 abbrev pub NoneLost : NetworkParts → List Bool → Type 0
@@ -49,7 +49,7 @@ count_dropped flags e h =
 -- no closed edge is lost with a dead one
 none_lost_dropped : (n : NetworkParts) (flags : List Bool) (e : ℕ) → NoneLost n flags → IsDead n e → NoneLost n (set flags e false)
 none_lost_dropped n flags e none dead es closed =
-    all-from-members (Contains (live_numbers (set flags e false))) es
+    All-from_members (Contains (live_numbers (set flags e false))) es
     (λ f has.
     let away : f ≢ e = λ same. dead es closed (subst (Contains es) same has) in
     let flag = flag_from_live flags f (All-contains (Contains (live_numbers flags)) es f (none es closed) has) in
@@ -72,20 +72,20 @@ pass_drops n before flags downwards i e dropped p live inner unsupported =
     at false h = let same = ap (count_by (λ l. l)) (p.same h) in omega (arith, count_dropped flags e live, same)
 
 -- each number has its turn
-turn-of : (count e : ℕ) (downwards : Bool) → e < count → (in_turn count e downwards < count) × (in_turn count (in_turn count e downwards) downwards ≡ e)
-turn-of count e true l = (omega arith, omega arith)
-turn-of count e false l = (l, refl)
+turn_of : (count e : ℕ) (downwards : Bool) → e < count → (in_turn count e downwards < count) × (in_turn count (in_turn count e downwards) downwards ≡ e)
+turn_of count e true l = (omega arith, omega arith)
+turn_of count e false l = (l, refl)
 
 -- a pass that dropped none leaves closed edges
 pub pass_quiet : (n : NetworkParts) (before flags : List Bool) (downwards : Bool) (i : ℕ) → IsPass n before flags downwards i false → length n.edges ≤ i → AreClosed n (live_numbers flags)
 pass_quiet n before flags downwards i p all =
-    all-from-members (λ e. (e < length n.edges) × (IsHullNumber n e ⊎ IsSupported n (live_numbers flags) e)) (live_numbers flags)
+    All-from_members (λ e. (e < length n.edges) × (IsHullNumber n e ⊎ IsSupported n (live_numbers flags) e)) (live_numbers flags)
     (λ e has.
     let flag = flag_from_live flags e has in
     let l = flag_in flags e flag in
     let each = p.one_each in
     let e_in : e < length n.edges = omega arith in
-    let t = turn-of (length n.edges) e downwards e_in in
+    let t = turn_of (length n.edges) e downwards e_in in
     let before_i = t.0 in
     let P : ℕ → Type 0 = λ x. slice_index_or flags x false ≡ true → IsHullNumber n x ⊎ IsSupported n (live_numbers flags) x in
     (e_in, subst P t.1 (p.kept refl (in_turn (length n.edges) e downwards) (omega arith)) flag))
@@ -93,7 +93,7 @@ pass_quiet n before flags downwards i p all =
 -- where all edges are live no closed one is lost
 pub none_lost_all : (n : NetworkParts) (flags : List Bool) → flags ≡ replicate (length n.edges) true → NoneLost n flags
 none_lost_all n flags is es closed =
-    all-from-members (Contains (live_numbers flags)) es
+    All-from_members (Contains (live_numbers flags)) es
     (λ e has.
     let e_in = (All-contains (λ x. (x < length n.edges) × (IsHullNumber n x ⊎ IsSupported n es x)) es e closed has).0 in
     live_from_flag flags e (ap (λ (fs : List Bool). get_or fs e false) is ∙ get_or-replicate (length n.edges) e true false e_in))

@@ -10,22 +10,22 @@ use Rattle.exact_predicates.proofs.ListFacts.{AllPairs-head, AllPairs-tail}
 use Rattle.lmt_network.specs.Flags.{live_numbers}
 
 module _ {X : Type 0} where
-  pub contains-here : (x : X) (xs : List X) → Contains (x ∷ xs) x
-  contains-here x xs = (zero, omega arith, refl)
+  pub Contains-here : (x : X) (xs : List X) → Contains (x ∷ xs) x
+  Contains-here x xs = (zero, omega arith, refl)
 
-  pub contains-later : (y x : X) (xs : List X) → Contains xs x → Contains (y ∷ xs) x
-  contains-later y x xs (k, k_in, at_k) = (suc k, omega arith, at_k)
+  pub Contains-later : (y x : X) (xs : List X) → Contains xs x → Contains (y ∷ xs) x
+  Contains-later y x xs (k, k_in, at_k) = (suc k, omega arith, at_k)
 
-  pub contains-cases : (y x : X) (xs : List X) → Contains (y ∷ xs) x → (y ≡ x) ⊎ Contains xs x
-  contains-cases y x xs (zero, k_in, at_k) = inl at_k
-  contains-cases y x xs (suc k, k_in, at_k) = inr (k, omega arith, at_k)
+  pub Contains-cases : (y x : X) (xs : List X) → Contains (y ∷ xs) x → (y ≡ x) ⊎ Contains xs x
+  Contains-cases y x xs (zero, k_in, at_k) = inl at_k
+  Contains-cases y x xs (suc k, k_in, at_k) = inr (k, omega arith, at_k)
 
-  pub contains-nil : (x : X) → ¬ Contains [] x
-  contains-nil x (k, k_in, at_k) = absurd (omega arith)
+  pub Contains-nil : (x : X) → ¬ Contains [] x
+  Contains-nil x (k, k_in, at_k) = absurd (omega arith)
 
   -- a fact of each member
-  pub all-from-members : (P : X → Type 0) (xs : List X) → ((x : X) → Contains xs x → P x) → All P xs
-  all-from-members P xs each = λ k d k_in. each (get_or xs k d) (k, k_in, same xs k d k_in)
+  pub All-from_members : (P : X → Type 0) (xs : List X) → ((x : X) → Contains xs x → P x) → All P xs
+  All-from_members P xs each = λ k d k_in. each (get_or xs k d) (k, k_in, same xs k d k_in)
     where
       same : (ys : List X) (j : ℕ) (e : X) → j < length ys → get_or ys j (get_or ys j e) ≡ get_or ys j e
       same [] j e l = absurd (omega arith)
@@ -36,25 +36,25 @@ module _ {X : Type 0} where
   pub picked_in : (bs : List Bool) (xs : List X) (k : ℕ) (d : X) → k < length xs → get_or bs k false ≡ true → Contains (items_where_true bs xs) (get_or xs k d)
   picked_in [] xs k d l h = absurd (false≢true h)
   picked_in (b ∷ bs) [] k d l h = absurd (omega arith)
-  picked_in (true ∷ bs) (x ∷ xs) zero d l h = contains-here x (items_where_true bs xs)
+  picked_in (true ∷ bs) (x ∷ xs) zero d l h = Contains-here x (items_where_true bs xs)
   picked_in (false ∷ bs) (x ∷ xs) zero d l h = absurd (false≢true h)
-  picked_in (true ∷ bs) (x ∷ xs) (suc k) d l h = contains-later x (get_or xs k d) (items_where_true bs xs) (picked_in bs xs k d (omega arith) h)
+  picked_in (true ∷ bs) (x ∷ xs) (suc k) d l h = Contains-later x (get_or xs k d) (items_where_true bs xs) (picked_in bs xs k d (omega arith) h)
   picked_in (false ∷ bs) (x ∷ xs) (suc k) d l h = picked_in bs xs k d (omega arith) h
 
   -- what is picked stands where a flag is true
   pub picked_from : (bs : List Bool) (xs : List X) (x : X) → Contains (items_where_true bs xs) x
       → (k : ℕ) × (k < length xs) × (get_or bs k false ≡ true) × (get_or xs k x ≡ x)
-  picked_from [] xs x h = absurd (contains-nil x h)
-  picked_from (b ∷ bs) [] x h = absurd (contains-nil x h)
+  picked_from [] xs x h = absurd (Contains-nil x h)
+  picked_from (b ∷ bs) [] x h = absurd (Contains-nil x h)
   picked_from (true ∷ bs) (y ∷ xs) x h =
       ⊎_elim
       (λ (e : y ≡ x). (zero, omega arith, refl, e))
       (λ (t : Contains (items_where_true bs xs) x). let r = picked_from bs xs x t in (suc r.0, omega (arith, r.1), r.2, r.3))
-      (contains-cases y x (items_where_true bs xs) h)
+      (Contains-cases y x (items_where_true bs xs) h)
   picked_from (false ∷ bs) (y ∷ xs) x h = let r = picked_from bs xs x h in (suc r.0, omega (arith, r.1), r.2, r.3)
 
   pub All-picked : (P : X → Type 0) (bs : List Bool) (xs : List X) → All P xs → All P (items_where_true bs xs)
-  All-picked P bs xs h = all-from-members P (items_where_true bs xs)
+  All-picked P bs xs h = All-from_members P (items_where_true bs xs)
       (λ x has. let r = picked_from bs xs x has in All-contains P xs x h (r.0, r.1, r.3))
 
   -- what is picked keeps its order

@@ -10,7 +10,7 @@ use Rattle.lmt_network.specs.Network.{IsNetwork, NetworkParts, edge_at, tri_at}
 use Rattle.lmt_network.specs.Numbers.{IsNumberOf, IsSideOf}
 use Rattle.lmt_network.specs.PriceTables.{PriceTable, TablesAreByNumber, TablesPriceLiveEdges, entry_at, table_prices}
 use Rattle.lmt_network.specs.Prices.{Priced, find_priced, priced, priced_edges}
-use Rattle.lmt_network.proofs.Entries.{contains_map, find_priced-entry, map-contains}
+use Rattle.lmt_network.proofs.Entries.{contains_map, find_priced-entry, map_contains}
 use Rattle.lmt_network.proofs.Naming.{AreNamed, edge_at-once, over_named, side_named, tri_number}
 
 -- the priced edges are named by their numbers
@@ -29,8 +29,8 @@ named n table live net within =
   where
     number : (f : Edge) → Contains (priced_edges (table_prices n table live)) f → (k : ℕ) × Contains live k × (edge_at n k ≡ f)
     number f h =
-        let (p, has_p, is_p) = map-contains (λ p. p.edge) (table_prices n table live) f h in
-        let (k, has_k, is_k) = map-contains (entry_at n table) live p has_p in
+        let (p, has_p, is_p) = map_contains (λ p. p.edge) (table_prices n table live) f h in
+        let (k, has_k, is_k) = map_contains (entry_at n table) live p has_p in
         (k, has_k, ap (λ (q : Priced). q.edge) is_k ∙ is_p)
 
 -- what is found of a live edge is its entry
@@ -40,7 +40,7 @@ entry n table live e u v net within h is =
     let prices = table_prices n table live in
     let p = entry_at n table e in
     let k = find_priced-entry prices p (contains_map (entry_at n table) live e h) in
-    let (j, has, same) = map-contains (entry_at n table) live (find_priced prices p.edge.a p.edge.b) k.has in
+    let (j, has, same) = map_contains (entry_at n table) live (find_priced prices p.edge.a p.edge.b) k.has in
     let edge : edge_at n j ≡ edge_at n e = ap (λ (q : Priced). q.edge) same ∙ Edge-equal (find_priced prices p.edge.a p.edge.b).edge p.edge k.a_is k.b_is in
     let number : j ≡ e = edge_at-once n j e net.ascending (All-contains (λ x. x < length n.edges) live j within has) is.0 edge in
     ap (λ a. find_priced prices a (max u v)) (sym is.1.0)
@@ -91,8 +91,8 @@ map-map : {X Y Z : Type 0} (g : Y → Z) (f : X → Y) (xs : List X) → map g (
 map-map g f [] = refl
 map-map g f (x ∷ xs) = ap (λ ys. g (f x) ∷ ys) (map-map g f xs)
 
-pub edges-law : TablesPriceLiveEdges
-edges-law n table flags size =
+pub edges_law : TablesPriceLiveEdges
+edges_law n table flags size =
     map-map (λ p. p.edge) (entry_at n table) (items_where_true flags (range_with_len 0 (length flags)))
     ∙ picked_range (edge_at n) flags n.edges 0 size (λ k d l. zero-plus k ∙ get_or_default n.edges k _ d l)
   where

@@ -43,9 +43,9 @@ support_of_pair n es e l sides s =
     }
 
 -- the triangles of a support have all sides among edges that have the edge itself
-pub sides-of_support : (n : NetworkParts) (es : List ℕ) (e : ℕ) → Contains es e → (s : IsSupported n es e)
+pub sides_of_support : (n : NetworkParts) (es : List ℕ) (e : ℕ) → Contains es e → (s : IsSupported n es e)
     → ((f : ℕ) → IsSideOf n s.l f → Contains es f) × ((f : ℕ) → IsSideOf n s.r f → Contains es f)
-sides-of_support n es e has s =
+sides_of_support n es e has s =
     (λ f h. at f (inl h), λ f h. at f (inr h))
   where
     at : (f : ℕ) → IsSideOf n s.l f ⊎ IsSideOf n s.r f → Contains es f

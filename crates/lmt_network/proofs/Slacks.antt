@@ -11,14 +11,14 @@ use Rattle.exact_predicates.specs.Triangulation.{IsTriangulation, edges, is_inne
 use Rattle.exact_predicates.proofs.Orientation.{d2_comm}
 use Rattle.exact_predicates.proofs.Pairs.{is_inner_decides}
 use Rattle.length_enclosure.specs.Enclosure.{lo, weight}
-use Rattle.lmt_network.specs.Bounds.{HasEdgesIn}
+use Rattle.lmt_network.specs.Edges.{HasEdgesIn}
 use Rattle.lmt_network.specs.Prices.{IsFeasible, Priced, anchors_of, int_sum_by, is_on_hull, priced, priced_edges, share, slack, weight_between}
 use Rattle.lmt_network.proofs.Entries.{anchors_of-is, is_on_hull-comm, is_on_hull_decides, priced-comm}
 use Rattle.lmt_network.proofs.Filters.{count_from, filter-from}
-use Rattle.lmt_network.proofs.FlipMinimal.{tri_over}
+use Rattle.lmt_network.proofs.SideEdges.{tri_over}
 use Rattle.lmt_network.proofs.IntSums.{int_sum_by-append, int_sum_by-not_negative, int_sum_by-plus, int_sum_by-pos, int_sum_by-same}
 use Rattle.exact_predicates.proofs.SidesCounted.{inner_sides, turned}
-use Rattle.lmt_network.proofs.Shares.{sum-sides, sum-slacks}
+use Rattle.lmt_network.proofs.Shares.{sum_sides, sum_slacks}
 
 -- the weight of an edge is that of its side, whichever way this runs
 weight-up : (ps : List Point) (u v : ℕ) → weight ps (min u v, max u v) ≡ weight ps (u, v)
@@ -105,8 +105,8 @@ slacks_given ps hull prices tris h t =
     omega (
       arith,
       ints,
-      sum-slacks ps hull prices tris,
-      sum-sides f ps hull tris h t,
+      sum_slacks ps hull prices tris,
+      sum_sides f ps hull tris h t,
       int_sum_by-same f g (ring_pairs hull) (λ s m. share-hull ps hull prices s.0 s.1 ((is_on_hull_decides hull s.0 s.1).1 (inl m))),
       int_sum_by-same (λ s. f s +ℤ f (turned s)) g (inner_sides hull tris)
           (λ s m. let off = inner_off ps hull tris s.0 s.1 t m in share-both ps hull prices s.0 s.1 off.0 off.1),

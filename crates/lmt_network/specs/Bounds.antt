@@ -1,5 +1,5 @@
--- The laws of the bound: no triangulation with live edges is shorter, and so none at all.
-use Rattle.std.specs.Prelude.{ℕ, List, All, Contains, pos, ◌≤ℤ◌}
+-- The laws of the bound that prices give: no triangulation with live edges is shorter, and so none at all.
+use Rattle.std.specs.Prelude.{ℕ, List, All, ℤ, pos, ◌≤ℤ◌}
 use Rattle.exact_predicates.specs.declared.diamond.Diamond.{Diamond}
 use Rattle.exact_predicates.specs.declared.diamond.Diamond.TheVariants.{Off}
 use Rattle.exact_predicates.specs.declared.edge.Edge.{Edge}
@@ -8,71 +8,64 @@ use Rattle.exact_predicates.specs.declared.tri.Tri.{Tri}
 use Rattle.exact_predicates.specs.Hull.{IsHull}
 use Rattle.exact_predicates.specs.Triangulation.{IsTriangulation, edges}
 use Rattle.exact_predicates.specs.Candidates.{AreCandidates}
-use Rattle.exact_predicates.specs.Length.{IsAsShort, IsAtLeast, IsNotLonger}
+use Rattle.exact_predicates.specs.Length.{IsAsShort, IsAtLeast}
 use Rattle.length_enclosure.specs.Enclosure.{lo}
-use Rattle.lmt_network.specs.FlipMinimal.{IsEdgeOf, HasCandidateEdges, IsFlipMinimalTriangulation}
+use Rattle.lmt_network.specs.Edges.{HasEdgesIn, HasCandidateEdges}
+use Rattle.lmt_network.specs.FlipMinimal.{IsFlipMinimalTriangulation}
 use Rattle.lmt_network.specs.Live.{IsLive}
 use Rattle.lmt_network.specs.Prices.{Priced, priced_edges, IsFeasible, ArePrices, bound}
+use Rattle.lmt_network.specs.Skeleton.{IsSkeletonEdge}
 
--- every edge of the triangulation is among es
-abbrev pub HasEdgesIn : List ℕ → List Tri → List Edge → Type 0
-HasEdgesIn hull tris es = (e : Edge) → IsEdgeOf hull tris e → Contains es e
+-- The length is split among the live edges: these are priced, no live triangle has a negative slack, and the anchored
+-- edges are skeleton edges.
+pub record IsSplit (ps : List Point) (hull : List ℕ) (diamond : Diamond) (anchored : List Edge) (prices : List Priced) : Type 0 where
+  pub hull_is : IsHull ps hull
+  pub live : IsLive ps hull diamond (priced_edges prices)
+  pub skeleton : All (IsSkeletonEdge ps (priced_edges prices)) anchored
+  pub prices_are : ArePrices anchored prices
+  pub feasible : IsFeasible ps hull prices
 
--- A triangulation that has priced edges alone, and all anchored ones, is at least as long as the bound.
+-- A triangulation with live edges is at least as long as the bound, also where each edge is rounded down.
 abbrev pub BoundIsBelow : Type 0
 BoundIsBelow =
-    (ps : List Point) (hull : List ℕ) (anchored : List Edge) (prices : List Priced) (tris : List Tri)
-    → ArePrices anchored prices → IsFeasible ps hull prices
-    → IsHull ps hull → IsTriangulation ps hull tris → HasEdgesIn hull tris (priced_edges prices)
-    → All (IsEdgeOf hull tris) anchored
+    (ps : List Point) (hull : List ℕ) (diamond : Diamond) (anchored : List Edge) (prices : List Priced) (tris : List Tri)
+    → IsSplit ps hull diamond anchored prices → IsTriangulation ps hull tris → HasEdgesIn hull tris (priced_edges prices)
     → bound hull prices ≤ℤ pos (lo ps (edges hull tris))
 
--- a flip-minimal triangulation
-pub record MinimalTriangulation (ps : List Point) (hull : List ℕ) : Type 0 where
+-- a flip-minimal triangulation of candidate edges that is at most as long as the triangulation first
+pub record Improvement (ps : List Point) (hull : List ℕ) (diamond : Diamond) (first : List Tri) : Type 0 where
   pub tris : List Tri
-  pub is : IsFlipMinimalTriangulation ps hull tris
+  pub flip_minimal : IsFlipMinimalTriangulation ps hull tris
+  pub candidates : HasCandidateEdges ps hull diamond tris
+  pub not_longer : IsAsShort ps (edges hull tris) (edges hull first)
 
--- Some flip-minimal triangulation is not longer than a given one.
-abbrev pub SomeFlipMinimal : Type 0
-SomeFlipMinimal =
-    (ps : List Point) (hull : List ℕ) (first : List Tri) → IsHull ps hull → IsTriangulation ps hull first
-    → (found : MinimalTriangulation ps hull) × IsNotLonger ps (edges hull found.tris) (edges hull first)
-
--- The premise of the diamond test: each triangulation has a flip-minimal one of candidate edges that is not longer.
+-- The exclusion premise of the diamond test: each triangulation has such an improvement.
 abbrev pub Exclusion : List Point → List ℕ → Diamond → Type 0
-Exclusion ps hull diamond =
-    (first : List Tri) → IsTriangulation ps hull first
-    → (found : MinimalTriangulation ps hull) × HasCandidateEdges ps hull diamond found.tris
-    × IsAsShort ps (edges hull found.tris) (edges hull first)
+Exclusion ps hull diamond = (first : List Tri) → IsTriangulation ps hull first → Improvement ps hull diamond first
 
 -- With the test off it holds.
 abbrev pub ExclusionOff : Type 0
 ExclusionOff = (ps : List Point) (hull : List ℕ) → IsHull ps hull → Exclusion ps hull Off
 
--- every flip-minimal triangulation of candidate edges has these edges
-abbrev pub AreInEach : List Point → List ℕ → Diamond → List Edge → Type 0
-AreInEach ps hull diamond es =
-    (found : MinimalTriangulation ps hull) → HasCandidateEdges ps hull diamond found.tris → All (IsEdgeOf hull found.tris) es
+-- It holds with any value of the test that leaves the candidates that there are with the test off.
+abbrev pub ExclusionWhereSame : Type 0
+ExclusionWhereSame =
+    (ps : List Point) (hull : List ℕ) (diamond : Diamond) (candidates : List Edge)
+    → IsHull ps hull → AreCandidates ps hull Off candidates → AreCandidates ps hull diamond candidates
+    → Exclusion ps hull diamond
 
--- what the bound of prices rests on
-pub record IsSplit (ps : List Point) (hull : List ℕ) (diamond : Diamond) (candidates anchored : List Edge) (prices : List Priced) : Type 0 where
-  pub hull_is : IsHull ps hull
-  pub candidates_are : AreCandidates ps hull diamond candidates
-  pub live : IsLive ps hull diamond (priced_edges prices)
-  pub anchored_in : AreInEach ps hull diamond anchored
-  pub prices_are : ArePrices anchored prices
-  pub feasible : IsFeasible ps hull prices
+-- no triangulation is shorter than so many millionths
+abbrev pub NoneIsShorter : List Point → List ℕ → ℤ → Type 0
+NoneIsShorter ps hull least = (tris : List Tri) → IsTriangulation ps hull tris → IsAtLeast ps (edges hull tris) least
 
--- Where the live edges are priced, and the premise holds, no triangulation is shorter than the bound.
+-- Under the premise no triangulation is shorter than the bound,
 abbrev pub BoundHolds : Type 0
 BoundHolds =
-    (ps : List Point) (hull : List ℕ) (diamond : Diamond) (candidates anchored : List Edge) (prices : List Priced) (tris : List Tri)
-    → IsSplit ps hull diamond candidates anchored prices → Exclusion ps hull diamond → IsTriangulation ps hull tris
-    → IsAtLeast ps (edges hull tris) (bound hull prices)
+    (ps : List Point) (hull : List ℕ) (diamond : Diamond) (anchored : List Edge) (prices : List Priced)
+    → IsSplit ps hull diamond anchored prices → Exclusion ps hull diamond → NoneIsShorter ps hull (bound hull prices)
 
--- With the test off that needs no premise.
+-- and with the test off without it.
 abbrev pub BoundHoldsOff : Type 0
 BoundHoldsOff =
-    (ps : List Point) (hull : List ℕ) (candidates anchored : List Edge) (prices : List Priced) (tris : List Tri)
-    → IsSplit ps hull Off candidates anchored prices → IsTriangulation ps hull tris
-    → IsAtLeast ps (edges hull tris) (bound hull prices)
+    (ps : List Point) (hull : List ℕ) (anchored : List Edge) (prices : List Priced)
+    → IsSplit ps hull Off anchored prices → NoneIsShorter ps hull (bound hull prices)

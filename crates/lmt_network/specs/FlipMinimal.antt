@@ -1,29 +1,15 @@
--- The edges of flip-minimal triangulations, and the laws that make them live.
-use Rattle.std.specs.Prelude.{ℕ, List, All, AllPairs, Any, Contains}
+-- Flip-minimal triangulations, and the laws that make their edges live.
+use Rattle.std.specs.Prelude.{ℕ, List}
 use Rattle.exact_predicates.specs.declared.diamond.Diamond.{Diamond}
 use Rattle.exact_predicates.specs.declared.diamond.Diamond.TheVariants.{Off}
 use Rattle.exact_predicates.specs.declared.edge.Edge.{Edge}
 use Rattle.exact_predicates.specs.declared.point.Point.{Point}
 use Rattle.exact_predicates.specs.declared.tri.Tri.{Tri}
 use Rattle.exact_predicates.specs.Hull.{IsHull}
-use Rattle.exact_predicates.specs.Triangulation.{IsTriangulation, edges}
+use Rattle.exact_predicates.specs.Triangulation.{IsTriangulation}
 use Rattle.exact_predicates.specs.Flip.{IsFlipMinimal}
-use Rattle.exact_predicates.specs.Candidates.{EdgePrecedes, Joins, IsCandidate, AreCandidates}
+use Rattle.lmt_network.specs.Edges.{HasEdgesIn, HasCandidateEdges, AreEdgesOf}
 use Rattle.lmt_network.specs.Live.{IsClosed, IsLive}
-
--- e is an edge of the triangulation
-abbrev pub IsEdgeOf : List ℕ → List Tri → Edge → Type 0
-IsEdgeOf hull tris e = Any (λ s. Joins e s.0 s.1) (edges hull tris)
-
--- every edge of the triangulation is a candidate
-abbrev pub HasCandidateEdges : List Point → List ℕ → Diamond → List Tri → Type 0
-HasCandidateEdges ps hull diamond tris = (e : Edge) → IsEdgeOf hull tris e → IsCandidate ps hull diamond e
-
--- es lists the edges of the triangulation, ascending
-pub record AreEdgesOf (hull : List ℕ) (tris : List Tri) (es : List Edge) : Type 0 where
-  pub ascending : AllPairs EdgePrecedes es
-  pub each : All (IsEdgeOf hull tris) es
-  pub all : (e : Edge) → IsEdgeOf hull tris e → Contains es e
 
 -- a triangulation in which no flip makes an edge shorter
 pub record IsFlipMinimalTriangulation (ps : List Point) (hull : List ℕ) (tris : List Tri) : Type 0 where
@@ -41,10 +27,9 @@ FlipMinimalIsClosed =
 -- So each of them is live.
 abbrev pub FlipMinimalIsLive : Type 0
 FlipMinimalIsLive =
-    (ps : List Point) (hull : List ℕ) (diamond : Diamond) (tris : List Tri) (candidates live : List Edge)
+    (ps : List Point) (hull : List ℕ) (diamond : Diamond) (tris : List Tri) (live : List Edge)
     → IsFlipMinimalTriangulation ps hull tris → HasCandidateEdges ps hull diamond tris
-    → AreCandidates ps hull diamond candidates → IsLive ps hull diamond live
-    → (e : Edge) → IsEdgeOf hull tris e → Contains live e
+    → IsLive ps hull diamond live → HasEdgesIn hull tris live
 
 -- With the test off every edge of every triangulation is a candidate.
 abbrev pub EdgesAreCandidates : Type 0

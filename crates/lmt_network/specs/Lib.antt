@@ -1,4 +1,5 @@
 pub mod Bounds
+pub mod Edges
 pub mod Flags
 pub mod FlipMinimal
 pub mod Inside
@@ -6,10 +7,10 @@ pub mod Live
 pub mod LiveSuffices
 pub mod Minimum
 pub mod Network
+pub mod NumberLaws
 pub mod Numbers
 pub mod PriceTables
 pub mod Prices
 pub mod Skeleton
-pub mod SkeletonExample
 pub mod Tables
 pub mod Uniqueness

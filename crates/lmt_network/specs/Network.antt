@@ -1,7 +1,9 @@
 -- A network: points with their hull, the candidate edges, and the empty triangles that these bound. Edges and triangles
 -- are known by their places in the two lists.
-use Rattle.std.specs.Prelude.{◌≢◌, ℕ, ◌<◌, ◌≤◌, List, length, All, AllPairs, Contains, slice_index_or}
-use Rattle.std.proofs.Common.{arith, lit<}
+use Rattle.std.specs.Prelude.{ℕ, ◌<◌, ◌≤◌, List, length, All, AllPairs, Contains, slice_index_or}
+use Rattle.std.proofs.Common.{lit<}
+use Rattle.std.proofs.Math.Nat.{ne_of_lt}
+use Rattle.mwt_base.specs.Limits.{most_edges, most_triangles}
 use Rattle.exact_predicates.specs.declared.edge.Edge.{Edge}
 use Rattle.exact_predicates.specs.declared.point.Point.{Point}
 use Rattle.exact_predicates.specs.declared.tri.Tri.{Tri}
@@ -21,12 +23,9 @@ pub record NetworkParts : Type 0 where
 abbrev pub edge_at : NetworkParts → ℕ → Edge
 edge_at n e = slice_index_or n.edges e (record { a = 0; b = 1; ascending = lit< tt })
 
-pub one-ne-two : ◌≢◌ {A = ℕ} 1 2
-one-ne-two = omega arith
-
 -- the triangle of a number
 abbrev pub tri_at : NetworkParts → ℕ → Tri
-tri_at n t = slice_index_or n.tris t (record { a = 0; b = 1; c = 2; below_b = lit< tt; below_c = lit< tt; apart = one-ne-two })
+tri_at n t = slice_index_or n.tris t (record { a = 0; b = 1; c = 2; below_b = lit< tt; below_c = lit< tt; apart = ne_of_lt (lit< tt) })
 
 -- What every network keeps.
 pub record IsNetwork (n : NetworkParts) : Type 0 where
@@ -36,5 +35,5 @@ pub record IsNetwork (n : NetworkParts) : Type 0 where
   pub ends_in : All (λ e. e.b < length n.points) n.edges
   pub hull_edges : (e : Edge) → IsHullEdge n.hull e → Contains n.edges e
   pub tris_are : AreTrianglesOver n.points n.edges n.tris
-  pub few_edges : length n.edges ≤ 400000
-  pub few_tris : length n.tris ≤ 4000000
+  pub few_edges : length n.edges ≤ most_edges
+  pub few_tris : length n.tris ≤ most_triangles

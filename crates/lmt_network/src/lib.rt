@@ -1,24 +1,18 @@
-//! The network of candidate edges and empty triangles, and the plain elimination that leaves the
-//! live edges. The definitions of support, closed list and live list stand in `specs/`.
+//! The network of candidate edges and empty triangles, the plain elimination that leaves the live
+//! edges, and the laws of live edges, skeletons, prices and minimum-weight triangulations. The
+//! definitions of support, closed list, live list, skeleton and price split stand in `specs/`.
 #![tactic(auto)]
 
-mod bounds;
 mod flags;
-mod flip_laws;
-mod minimum_weight;
+mod laws;
 mod network;
-mod price_tables;
 mod settle;
-mod skeleton;
 mod tables;
-mod unique_lists;
 
-pub use bounds::bound_laws;
 pub use flags::Flags;
-pub use flip_laws::flip_minimal_laws;
-pub use minimum_weight::{live_edges_suffice, minimum_laws};
+pub use laws::{
+    bound_laws, flip_minimal_laws, live_edges_suffice, minimum_laws, number_laws, price_table_laws,
+    skeleton_laws, unique_list_laws,
+};
 pub use network::Network;
-pub use price_tables::price_table_laws;
 pub use settle::plain_settle;
-pub use skeleton::{skeleton_example, skeleton_laws};
-pub use unique_lists::unique_list_laws;

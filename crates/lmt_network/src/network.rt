@@ -5,13 +5,16 @@ ghost use Rattle.exact_predicates.specs.Hull.{IsHull};
 ghost use Rattle.exact_predicates.specs.Plane.{IsInRange};
 ghost use Rattle.exact_predicates.specs.PointSet.{point_at};
 ghost use Rattle.exact_predicates.specs.Candidates.{AreCandidates, AreTrianglesOver, IsEmptyOver, HasEdge};
+ghost use Rattle.mwt_base.specs.Limits.{most_edges, most_triangles};
 ghost use Rattle.length_enclosure.specs.Enclosure.{weight};
 ghost use Rattle.lmt_network.specs.Network.{NetworkParts, IsNetwork, edge_at, tri_at};
 ghost use Rattle.lmt_network.specs.Numbers.{IsHullNumber, IsOnLeft, IsOnRight, IsMinimalPair, IsNumberOf, IsSideOf, HasSide};
 ghost use Rattle.exact_predicates.specs.Triangulation.{HasCorners};
 
-use crate::tables::{find_edge, hull_flags, row, row_starts, rows, side_keys, weights};
-use exact_predicates::{Edge, Edges, Hull, Point, Points, Tri, Tris, d2, strictly_convex};
+use crate::tables::{hull_flags, row, row_starts, rows, side_keys, weights};
+use exact_predicates::{
+    Edge, Edges, Hull, Point, Points, Tri, Tris, d2, place_of_edge, strictly_convex,
+};
 use mwt_base::NoMemory;
 use std::alloc::Global;
 use std::marker::Model;
@@ -60,18 +63,18 @@ impl Network {
         requires hull_is { IsHull points.now.points hull.now }
         requires candidates { (diamond : Diamond) × AreCandidates points.now.points hull.now diamond edges }
         requires triangles { AreTrianglesOver points.now.points edges tris }
-        requires few_edges { length edges ≤ 400000 }
-        requires few_tris { length tris ≤ 4000000 }
+        requires few_edges { length edges ≤ most_edges }
+        requires few_tris { length tris ≤ most_triangles }
         ensures { IfOk result (λ net. net ≡
             record { points = points.now.points; hull = hull.now; edges = edges; tris = tris }) }
     {
         let on_hull = hull_flags(alloc, edges.as_slice(), hull.as_slice())?;
-        let weights = weights(alloc, points.as_slice(), edges.as_slice())?;
         let keys = side_keys(alloc, edges.as_slice(), tris.as_slice())?;
         let starts = row_starts(alloc, &keys, 2 * edges.len())?;
         let rows = rows(alloc, &keys, 2 * edges.len(), &starts)?;
         let points = Vec::from_slice(alloc, points.as_slice())?;
         let hull = Vec::from_slice(alloc, hull.as_slice())?;
+        let weights = weights(alloc, &points, edges.as_slice())?;
         Ok(Network {
             points,
             hull,
@@ -150,7 +153,13 @@ impl Network {
         ensures some { IfSome result (IsNumberOf self.now u v) }
         ensures none { IsNone result ↔ ¬ HasEdge self.now.edges u v }
     {
-        find_edge(self.edges.as_slice(), u, v)
+        if u == v {
+            return None;
+        }
+        match place_of_edge(self.edges.as_slice(), u, v) {
+            Some(place) => Some(place as u32),
+            None => None,
+        }
     }
 
     /// Whether the edge is an edge of the hull.

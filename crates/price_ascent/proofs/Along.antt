@@ -6,7 +6,7 @@ use Rattle.lmt_network.specs.Numbers.{IsNumberOf}
 use Rattle.lmt_network.specs.PriceTables.{PriceTable}
 use Rattle.lmt_network.specs.Prices.{is_on_hull}
 use Rattle.lmt_network.proofs.Entries.{is_on_hull-comm}
-use Rattle.lmt_network.proofs.Picked.{contains-here, contains-later}
+use Rattle.lmt_network.proofs.Picked.{Contains-here, Contains-later}
 use Rattle.price_ascent.specs.Ascent.{anchor_at, left_at, right_at, value_at}
 use Rattle.price_ascent.specs.Raised.{IsRaisedAlong, IsRaisedNext, with_more}
 use Rattle.price_ascent.proofs.Changed.{which_side}
@@ -88,23 +88,23 @@ pub left_along : (n : NetworkParts) (live : List Bool) (sides : List (ℕ × ℕ
     → (is_on_hull n.hull (edge_at n k).a (edge_at n k).b ≡ false → ¬ Contains sides (left_of n k)) → left_at b k ≡ left_at a k
 left_along n live [] a b k h out = ap (λ (t : PriceTable). left_at t k) h
 left_along n live (s ∷ sides) a b k (next, r, rest) out =
-    left_along n live sides next b k rest (λ off later. out off (contains-later s (left_of n k) sides later))
+    left_along n live sides next b k rest (λ off later. out off (Contains-later s (left_of n k) sides later))
     ∙ (ap (λ (t : PriceTable). left_at t k) r.new_is
     ∙ more_in-lefts (is_on_hull n.hull s.0 s.1) (nat_lt s.0 s.1) a r.e k r.m (λ off up same.
     let side = left_raised n s k (subst (IsNumberOf n s.0 s.1) (sym same) r.number) up in
-    out (ap (λ (p : ℕ × ℕ). is_on_hull n.hull p.0 p.1) (sym side) ∙ off) (subst (Contains (s ∷ sides)) side (contains-here s sides))))
+    out (ap (λ (p : ℕ × ℕ). is_on_hull n.hull p.0 p.1) (sym side) ∙ off) (subst (Contains (s ∷ sides)) side (Contains-here s sides))))
 
 -- and of right sides
 pub right_along : (n : NetworkParts) (live : List Bool) (sides : List (ℕ × ℕ)) (a b : PriceTable) (k : ℕ) → IsRaisedAlong n live sides a b
     → (is_on_hull n.hull (edge_at n k).a (edge_at n k).b ≡ false → ¬ Contains sides (right_of n k)) → right_at b k ≡ right_at a k
 right_along n live [] a b k h out = ap (λ (t : PriceTable). right_at t k) h
 right_along n live (s ∷ sides) a b k (next, r, rest) out =
-    right_along n live sides next b k rest (λ off later. out off (contains-later s (right_of n k) sides later))
+    right_along n live sides next b k rest (λ off later. out off (Contains-later s (right_of n k) sides later))
     ∙ (ap (λ (t : PriceTable). right_at t k) r.new_is
     ∙ more_in-rights (is_on_hull n.hull s.0 s.1) (nat_lt s.0 s.1) a r.e k r.m (λ off down same.
     let side = right_raised n s k (subst (IsNumberOf n s.0 s.1) (sym same) r.number) down in
     out (sym (is_on_hull-comm n.hull (edge_at n k).a (edge_at n k).b) ∙ (ap (λ (p : ℕ × ℕ). is_on_hull n.hull p.0 p.1) (sym side) ∙ off))
-    (subst (Contains (s ∷ sides)) side (contains-here s sides))))
+    (subst (Contains (s ∷ sides)) side (Contains-here s sides))))
 
 -- neither side of the edge k is among these
 abbrev pub AreOutside : NetworkParts → List (ℕ × ℕ) → ℕ → Type 0
@@ -116,12 +116,12 @@ pub value_along : (n : NetworkParts) (live : List Bool) (sides : List (ℕ × �
 value_along n live [] a b k h out = ap (λ (t : PriceTable). value_at t k) h
 value_along n live (s ∷ sides) a b k (next, r, rest) out =
     value_along n live sides next b k rest (λ on. let far = out on in
-    ((λ later. far.0 (contains-later s (left_of n k) sides later)), (λ later. far.1 (contains-later s (right_of n k) sides later))))
+    ((λ later. far.0 (Contains-later s (left_of n k) sides later)), (λ later. far.1 (Contains-later s (right_of n k) sides later))))
     ∙ (ap (λ (t : PriceTable). value_at t k) r.new_is
     ∙ more_in-values (is_on_hull n.hull s.0 s.1) (nat_lt s.0 s.1) a r.e k r.m (λ on same.
     let x = (edge_at n k).a in
     let y = (edge_at n k).b in
-    let here = contains-here s sides in
+    let here = Contains-here s sides in
     ⊎_elim
     (λ (p : (s.0 ≡ x) × (s.1 ≡ y)).
     let side = same_pair s (left_of n k) (sym p.0) (sym p.1) in

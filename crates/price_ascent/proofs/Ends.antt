@@ -8,7 +8,7 @@ use Rattle.exact_predicates.specs.Hull.{IsHullPair}
 use Rattle.exact_predicates.proofs.Rings.{pair_ends}
 use Rattle.lmt_network.specs.Network.{IsNetwork, NetworkParts, edge_at}
 use Rattle.lmt_network.specs.Numbers.{IsNumberOf}
-use Rattle.lmt_network.proofs.FlipMinimal.{edge_between, hull_edge}
+use Rattle.lmt_network.proofs.SideEdges.{edge_between, hull_edge}
 use Rattle.lmt_network.proofs.Naming.{read_member}
 use Rattle.price_ascent.specs.Steps.{IsSlack}
 

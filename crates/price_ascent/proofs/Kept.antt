@@ -6,7 +6,7 @@ use Rattle.lmt_network.specs.Network.{IsNetwork, NetworkParts, edge_at}
 use Rattle.lmt_network.specs.Numbers.{IsNumberOf}
 use Rattle.lmt_network.specs.PriceTables.{IsByNumber, PriceTable, entry_at}
 use Rattle.lmt_network.specs.Prices.{Priced, is_on_hull, priced, share, weight_between}
-use Rattle.lmt_network.proofs.Picked.{all-from-members, flag_from_live, flag_in, live_from_flag}
+use Rattle.lmt_network.proofs.Picked.{All-from_members, flag_from_live, flag_in, live_from_flag}
 use Rattle.lmt_network.proofs.PriceTables.{by_number_law}
 use Rattle.std.proofs.lemmas.List.{length-map}
 use Rattle.price_ascent.specs.declared.entry.Entry.{Entry}
@@ -42,7 +42,7 @@ number-live es e has = sym (live_at es e) ∙ flag_from_live (live_of es) e has
 pub by_number : (n : NetworkParts) (es : List Entry) → IsNetwork n → length es ≡ length n.edges → IsByNumber n (table_of es) (live_numbers (live_of es))
 by_number n es net one_each =
     by_number_law n (table_of es) (live_numbers (live_of es)) net
-    (all-from-members (λ e. e < length n.edges) (live_numbers (live_of es))
+    (All-from_members (λ e. e < length n.edges) (live_numbers (live_of es))
     (λ e has. let l = flag_in (live_of es) e (flag_from_live (live_of es) e has) in omega (arith, length-map es (λ (p : Entry). p.live), l)))
 
 -- what the prices say of an edge

@@ -15,7 +15,7 @@ use Rattle.lmt_network.specs.Network.{IsNetwork, NetworkParts, edge_at, tri_at}
 use Rattle.lmt_network.specs.Numbers.{HasSide, IsNumberOf, IsSideOf}
 use Rattle.lmt_network.specs.Prices.{IsLiveTriangle, priced_edges}
 use Rattle.lmt_network.proofs.Picked.{picked_from}
-use Rattle.lmt_network.proofs.PriceTables.{edges-law}
+use Rattle.lmt_network.proofs.PriceTables.{edges_law}
 use Rattle.lmt_network.proofs.Settling.{three_live}
 use Rattle.price_ascent.specs.declared.entry.Entry.{Entry}
 use Rattle.price_ascent.specs.Entries.{entry, live_of, prices_of, table_of}
@@ -24,7 +24,7 @@ use Rattle.price_ascent.proofs.Kept.{by_number, live_at, live_number, number-liv
 
 -- the edges with a price are the live ones
 pub edges-kept : (n : NetworkParts) (es : List Entry) → length es ≡ length n.edges → priced_edges (prices_of n es) ≡ live_edges n (live_of es)
-edges-kept n es one_each = edges-law n (table_of es) (live_of es) (length-map es (λ (p : Entry). p.live) ∙ one_each)
+edges-kept n es one_each = edges_law n (table_of es) (live_of es) (length-map es (λ (p : Entry). p.live) ∙ one_each)
 
 -- an edge with a price has a number, and is live
 edge_number : (n : NetworkParts) (es : List Entry) (u v : ℕ) → length es ≡ length n.edges → HasEdge (priced_edges (prices_of n es)) u v

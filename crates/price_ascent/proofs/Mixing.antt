@@ -18,7 +18,7 @@ use Rattle.lmt_network.specs.Numbers.{IsNumberOf}
 use Rattle.lmt_network.specs.PriceTables.{PriceTable, entry_at}
 use Rattle.lmt_network.specs.Prices.{Priced, is_on_hull}
 use Rattle.lmt_network.proofs.Entries.{is_on_hull-comm, is_on_hull_decides}
-use Rattle.lmt_network.proofs.Picked.{contains-here, contains-later}
+use Rattle.lmt_network.proofs.Picked.{Contains-here, Contains-later}
 use Rattle.price_ascent.specs.Ascent.{IsLeastSlack, IsRaised, IsTighten, anchor_at, anchored_sides, both_sides, is_among, mixed_entry}
 use Rattle.price_ascent.specs.Raised.{IsRaisedAlong}
 use Rattle.price_ascent.proofs.Along.{AreOutside, IsFull, along_split, anchor_next, full_along, left_along, left_of, right_along, right_of, value_along}
@@ -136,7 +136,7 @@ raised_between n live a c before after u v full once h =
     let (b, first, last) = along_split n live before ((u, v) ∷ after) a c h in
     let between : IsBetween n live a b c before ((u, v) ∷ after) = record { once = once; first = first; last = last } in
     let r = last.1 in
-    let itself = Contains-append_right before ((u, v) ∷ after) (u, v) (contains-here (u, v) after) in
+    let itself = Contains-append_right before ((u, v) ∷ after) (u, v) (Contains-here (u, v) after) in
     record {
       e = r.e;
       number = r.number;
@@ -145,11 +145,11 @@ raised_between n live a c before after u v full once h =
           (map_same (entry_at n b) (mixed_entry n before c a) (live_numbers live) (λ k. mixed_entry-between n live a b c before ((u, v) ∷ after) k between)) r.least;
       anchor = anchor_along n live after last.0 c r.e u v r.number last.2
           (λ later. apart n.hull (before ++ (u, v) ∷ []) after u v (subst (AreOnce n.hull) (sym (append_assoc before ((u, v) ∷ []) after)) once)
-          (Contains-append_right before ((u, v) ∷ []) (u, v) (contains-here (u, v) [])) later)
-          (λ on later. once.one_way u v on itself (Contains-append_right before ((u, v) ∷ after) (v, u) (contains-later (u, v) (v, u) after later)))
+          (Contains-append_right before ((u, v) ∷ []) (u, v) (Contains-here (u, v) [])) later)
+          (λ on later. once.one_way u v on itself (Contains-append_right before ((u, v) ∷ after) (v, u) (Contains-later (u, v) (v, u) after later)))
           ∙ (anchor_next n live b last.0 u v r (full_along n live before a b first full)
           ∙ ap (λ y. y +ℤ r.m) (anchor_along n live before a b r.e u v r.number first
-          (λ sooner. apart n.hull before ((u, v) ∷ after) u v once sooner (contains-here (u, v) after))
+          (λ sooner. apart n.hull before ((u, v) ∷ after) u v once sooner (Contains-here (u, v) after))
           (λ on sooner. once.one_way u v on itself (Contains-append_left before ((u, v) ∷ after) (v, u) sooner))));
     }
 

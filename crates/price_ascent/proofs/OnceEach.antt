@@ -18,7 +18,7 @@ use Rattle.exact_predicates.proofs.SidesCounted.{count}
 use Rattle.lmt_network.specs.Live.{IsHullEdge}
 use Rattle.lmt_network.specs.Prices.{is_on_hull}
 use Rattle.lmt_network.proofs.Entries.{is_on_hull_decides}
-use Rattle.lmt_network.proofs.Picked.{contains-cases, contains-here, contains-later, contains-nil}
+use Rattle.lmt_network.proofs.Picked.{Contains-cases, Contains-here, Contains-later, Contains-nil}
 use Rattle.price_ascent.specs.Ascent.{anchored_sides, both_sides}
 
 -- Each side stands once, and none of the hull has its other direction beside it.
@@ -36,24 +36,24 @@ apart hull xs ys u v h in_xs in_ys =
 
 -- the edge that one of these is a side of
 pub edge_of_side : (es : List Edge) (u v : ℕ) → Contains (flat_map both_sides es) (u, v) → (f : Edge) × Contains es f × Joins f u v
-edge_of_side [] u v h = absurd (contains-nil (u, v) h)
+edge_of_side [] u v h = absurd (Contains-nil (u, v) h)
 edge_of_side (e ∷ es) u v h =
     let rest = flat_map both_sides es in
     ⊎_elim
-    (λ (is : (e.a, e.b) ≡ (u, v)). (e, contains-here e es, subst (λ (p : ℕ × ℕ). Joins e p.0 p.1) is (Joins-ends e)))
+    (λ (is : (e.a, e.b) ≡ (u, v)). (e, Contains-here e es, subst (λ (p : ℕ × ℕ). Joins e p.0 p.1) is (Joins-ends e)))
     (λ more. ⊎_elim
-    (λ (is : (e.b, e.a) ≡ (u, v)). (e, contains-here e es, subst (λ (p : ℕ × ℕ). Joins e p.0 p.1) is (Joins-comm e e.a e.b (Joins-ends e))))
-    (λ later. let (f, has, joins) = edge_of_side es u v later in (f, contains-later e f es has, joins))
-    (contains-cases (e.b, e.a) (u, v) rest more))
-    (contains-cases (e.a, e.b) (u, v) ((e.b, e.a) ∷ rest) h)
+    (λ (is : (e.b, e.a) ≡ (u, v)). (e, Contains-here e es, subst (λ (p : ℕ × ℕ). Joins e p.0 p.1) is (Joins-comm e e.a e.b (Joins-ends e))))
+    (λ later. let (f, has, joins) = edge_of_side es u v later in (f, Contains-later e f es has, joins))
+    (Contains-cases (e.b, e.a) (u, v) rest more))
+    (Contains-cases (e.a, e.b) (u, v) ((e.b, e.a) ∷ rest) h)
 
 -- what is counted is there
 counted : (xs : List (ℕ × ℕ)) (u v : ℕ) → 1 ≤ count xs u v → Contains xs (u, v)
 counted [] u v h = absurd (omega (arith, h))
 counted (x ∷ xs) u v h =
     ⊎_elim
-    (λ is. subst (Contains (x ∷ xs)) (ap (λ z. (z, x.1)) is.0 ∙ ap (λ z. (u, z)) is.1) (contains-here x xs))
-    (λ away. contains-later x (u, v) xs (counted xs u v (omega (arith, h, sum_by-cons (hit u v) x xs, hit_none u v x.0 x.1 away))))
+    (λ is. subst (Contains (x ∷ xs)) (ap (λ z. (z, x.1)) is.0 ∙ ap (λ z. (u, z)) is.1) (Contains-here x xs))
+    (λ away. Contains-later x (u, v) xs (counted xs u v (omega (arith, h, sum_by-cons (hit u v) x xs, hit_none u v x.0 x.1 away))))
     (same_or_not x.0 u x.1 v)
   where
     same_or_not : (p q r s : ℕ) → ((p ≡ q) × (r ≡ s)) ⊎ (¬ ((p ≡ q) × (r ≡ s)))
@@ -82,8 +82,8 @@ two_sides e u v =
         let here = counted (s ∷ []) u v is in
         ⊎_elim
         (λ (same : s ≡ (u, v)). let one = ap (hit u v) same in omega (arith, one, hit_same u v))
-        (λ none. absurd (contains-nil (u, v) none))
-        (contains-cases s (u, v) [] here))
+        (λ none. absurd (Contains-nil (u, v) none))
+        (Contains-cases s (u, v) [] here))
         (λ (none : count (s ∷ []) u v < 1). omega (arith, none, sum_by-cons (hit u v) s []))
         (at_least (count (s ∷ []) u v))
 

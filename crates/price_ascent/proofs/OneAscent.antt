@@ -14,7 +14,7 @@ use Rattle.lmt_network.specs.PriceTables.{PriceTable, entry_at}
 use Rattle.lmt_network.specs.Prices.{Priced, is_on_hull}
 use Rattle.lmt_network.proofs.Entries.{is_on_hull-comm, is_on_hull_decides}
 use Rattle.lmt_network.proofs.Naming.{edge_at-once}
-use Rattle.lmt_network.proofs.Picked.{contains-here, contains-later, contains-nil, flag_from_live, flag_in}
+use Rattle.lmt_network.proofs.Picked.{Contains-here, Contains-later, Contains-nil, flag_from_live, flag_in}
 use Rattle.price_ascent.specs.Ascent.{AreSweeps, IsLeastSlack, IsTighten, anchor_at, anchored_sides, both_sides, is_among, left_at, mixed_entry, right_at, value_at}
 use Rattle.price_ascent.specs.OneAscent.{OneAscent}
 use Rattle.price_ascent.proofs.Mixing.{among_decides, same_price}
@@ -26,7 +26,7 @@ use Rattle.price_ascent.proofs.Tightness.{left_among, right_among}
 -- the same values at each member
 map_at : {X Y : Type 0} (f g : X → Y) (xs : List X) → ((x : X) → Contains xs x → f x ≡ g x) → map f xs ≡ map g xs
 map_at f g [] same = refl
-map_at f g (x ∷ xs) same = ap (λ y. y ∷ map f xs) (same x (contains-here x xs)) ∙ ap (λ ys. g x ∷ ys) (map_at f g xs (λ y has. same y (contains-later x y xs has)))
+map_at f g (x ∷ xs) same = ap (λ y. y ∷ map f xs) (same x (Contains-here x xs)) ∙ ap (λ ys. g x ∷ ys) (map_at f g xs (λ y has. same y (Contains-later x y xs has)))
 
 -- Two tables that are the same anchors tightened.
 record AreTwo (n : NetworkParts) (live : List Bool) (anchored : List Edge) (o s t : PriceTable) : Type 0 where
@@ -135,7 +135,7 @@ module _ {n : NetworkParts} {live : List Bool} {anchored : List Edge} {o s t : P
 
   -- and on all of them
   agreed : Agree n s t (anchored_sides n.hull anchored)
-  agreed = agree_all [] (anchored_sides n.hull anchored) refl (λ u v e has number. absurd (contains-nil (u, v) has))
+  agreed = agree_all [] (anchored_sides n.hull anchored) refl (λ u v e has number. absurd (Contains-nil (u, v) has))
 
   entry_same : (k : ℕ) → k < length n.edges → entry_at n s k ≡ entry_at n t k
   entry_same k k_in =

@@ -9,7 +9,7 @@ use Rattle.lmt_network.specs.Flags.{live_numbers}
 use Rattle.lmt_network.specs.Network.{NetworkParts}
 use Rattle.lmt_network.specs.PriceTables.{entry_at}
 use Rattle.lmt_network.specs.Prices.{ArePrices, Priced}
-use Rattle.lmt_network.proofs.Picked.{AllPairs-picked, all-from-members, flag_in, flag_from_live, picked_in}
+use Rattle.lmt_network.proofs.Picked.{AllPairs-picked, All-from_members, flag_in, flag_from_live, picked_in}
 use Rattle.std.proofs.lemmas.List.{length-map}
 use Rattle.price_ascent.specs.declared.entry.Entry.{Entry}
 use Rattle.price_ascent.specs.Belonging.{BelongTo, IsWithinLimits}
@@ -28,7 +28,7 @@ live_in n es k one_each has =
 each_price : (n : NetworkParts) (es : List Entry) (P : Priced → Type 0) → length es ≡ length n.edges → ((k : ℕ) → k < length n.edges → P (kept_price n es k)) → All P (prices_of n es)
 each_price n es P one_each each =
     All-map P (entry_at n (table_of es)) (live_numbers (live_of es))
-    (all-from-members (λ k. P (entry_at n (table_of es) k)) (live_numbers (live_of es))
+    (All-from_members (λ k. P (entry_at n (table_of es) k)) (live_numbers (live_of es))
     (λ k has. subst P (sym (entry_at-kept n es k)) (each k (live_in n es k one_each has))))
 
 pub are_prices : (n : NetworkParts) (es : List Entry) → BelongTo n es → ArePrices (anchored_edges n es) (prices_of n es)

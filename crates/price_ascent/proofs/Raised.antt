@@ -6,7 +6,7 @@ use Rattle.lmt_network.specs.Network.{NetworkParts}
 use Rattle.lmt_network.specs.Numbers.{IsHullNumber}
 use Rattle.lmt_network.specs.PriceTables.{PriceTable}
 use Rattle.lmt_network.specs.Prices.{slack}
-use Rattle.lmt_network.proofs.Picked.{contains-cases}
+use Rattle.lmt_network.proofs.Picked.{Contains-cases}
 use Rattle.price_ascent.specs.declared.entry.Entry.{Entry}
 use Rattle.price_ascent.specs.Ascent.{IsLeastSlack, IsLiveOn}
 use Rattle.price_ascent.specs.Belonging.{BelongTo}
@@ -94,7 +94,7 @@ more_raised n es fs gs sides rest u v h r =
           (λ left. ⊎_elim
           (λ (is : (u, v) ≡ (p, q)). inr (subst (λ (s : ℕ × ℕ). IsSettled n gs s.0 s.1) is (now_settled n fs gs u v r)))
           (λ later. inl later)
-          (contains-cases (u, v) (p, q) rest left))
+          (Contains-cases (u, v) (p, q) rest left))
           (λ s. inr (keeps_settled n fs gs u v p q r s))
           (h.settled p q has);
     }

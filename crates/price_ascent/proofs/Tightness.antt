@@ -9,7 +9,7 @@ use Rattle.lmt_network.specs.Flags.{live_edges}
 use Rattle.lmt_network.specs.Live.{IsHullEdge}
 use Rattle.lmt_network.specs.Network.{NetworkParts, edge_at}
 use Rattle.lmt_network.specs.Prices.{IsTight, IsTightSide, Priced, priced}
-use Rattle.lmt_network.proofs.Picked.{AllPairs-picked, contains-cases, contains-here, contains-later, contains-nil, picked_from}
+use Rattle.lmt_network.proofs.Picked.{AllPairs-picked, Contains-cases, Contains-here, Contains-later, Contains-nil, picked_from}
 use Rattle.price_ascent.specs.declared.entry.Entry.{Entry}
 use Rattle.price_ascent.specs.Ascent.{IsTighten, both_sides}
 use Rattle.price_ascent.specs.Belonging.{BelongTo, IsBareSide}
@@ -70,23 +70,23 @@ tight_side n es u v y (inr none) bare = inr (λ t side over. none t (side, over)
 
 -- the sides of an edge are among those of all
 pub left_among : (xs : List Edge) (e : Edge) → Contains xs e → Contains (flat_map both_sides xs) (e.a, e.b)
-left_among [] e h = absurd (contains-nil e h)
+left_among [] e h = absurd (Contains-nil e h)
 left_among (x ∷ xs) e h =
     let rest = flat_map both_sides xs in
     ⊎_elim
-    (λ (same : x ≡ e). subst (λ (y : Edge). Contains ((x.a, x.b) ∷ (x.b, x.a) ∷ rest) (y.a, y.b)) same (contains-here (x.a, x.b) ((x.b, x.a) ∷ rest)))
-    (λ (later : Contains xs e). contains-later (x.a, x.b) (e.a, e.b) ((x.b, x.a) ∷ rest) (contains-later (x.b, x.a) (e.a, e.b) rest (left_among xs e later)))
-    (contains-cases x e xs h)
+    (λ (same : x ≡ e). subst (λ (y : Edge). Contains ((x.a, x.b) ∷ (x.b, x.a) ∷ rest) (y.a, y.b)) same (Contains-here (x.a, x.b) ((x.b, x.a) ∷ rest)))
+    (λ (later : Contains xs e). Contains-later (x.a, x.b) (e.a, e.b) ((x.b, x.a) ∷ rest) (Contains-later (x.b, x.a) (e.a, e.b) rest (left_among xs e later)))
+    (Contains-cases x e xs h)
 
 pub right_among : (xs : List Edge) (e : Edge) → Contains xs e → Contains (flat_map both_sides xs) (e.b, e.a)
-right_among [] e h = absurd (contains-nil e h)
+right_among [] e h = absurd (Contains-nil e h)
 right_among (x ∷ xs) e h =
     let rest = flat_map both_sides xs in
     ⊎_elim
     (λ (same : x ≡ e). subst (λ (y : Edge). Contains ((x.a, x.b) ∷ (x.b, x.a) ∷ rest) (y.b, y.a)) same
-    (contains-later (x.a, x.b) (x.b, x.a) ((x.b, x.a) ∷ rest) (contains-here (x.b, x.a) rest)))
-    (λ (later : Contains xs e). contains-later (x.a, x.b) (e.b, e.a) ((x.b, x.a) ∷ rest) (contains-later (x.b, x.a) (e.b, e.a) rest (right_among xs e later)))
-    (contains-cases x e xs h)
+    (Contains-later (x.a, x.b) (x.b, x.a) ((x.b, x.a) ∷ rest) (Contains-here (x.b, x.a) rest)))
+    (λ (later : Contains xs e). Contains-later (x.a, x.b) (e.b, e.a) ((x.b, x.a) ∷ rest) (Contains-later (x.b, x.a) (e.b, e.a) rest (right_among xs e later)))
+    (Contains-cases x e xs h)
 
 -- the anchors of an anchored edge
 left_zero : (n : NetworkParts) (es : List Entry) (k : ℕ) → BelongTo n es → k < length n.edges → (entry es k).anchored ≡ true
@@ -113,15 +113,15 @@ tight n es fs gs r =
     let b = r.inner.belong in
     let back : anchored_edges n gs ≡ anchored_edges n fs = ap (live_edges n) r.inner.anchored in
     record {
-      hull_sides = λ u v pair. tight_side n gs u v _ (⊎_elim (λ none. absurd (contains-nil (u, v) none)) (λ s. r.inner.keeps u v s) (r.hull.settled u v pair)) (hull_zero n gs u v b pair);
+      hull_sides = λ u v pair. tight_side n gs u v _ (⊎_elim (λ none. absurd (Contains-nil (u, v) none)) (λ s. r.inner.keeps u v s) (r.hull.settled u v pair)) (hull_zero n gs u v b pair);
       lefts = λ e has.
           let k = anchored-number n gs e has in
           tight_side n gs e.a e.b _
-          (⊎_elim (λ none. absurd (contains-nil (e.a, e.b) none)) (λ s. s) (r.inner.settled e.a e.b (left_among (anchored_edges n fs) e (subst (λ (xs : List Edge). Contains xs e) back has))))
+          (⊎_elim (λ none. absurd (Contains-nil (e.a, e.b) none)) (λ s. s) (r.inner.settled e.a e.b (left_among (anchored_edges n fs) e (subst (λ (xs : List Edge). Contains xs e) back has))))
           (subst (λ (x : Edge). IsBareSide n.points (prices_of n gs) x.a x.b → (priced (prices_of n gs) x.a x.b).left ≡ pos 0) k.2 (left_zero n gs k.0 b k.1 k.3));
       rights = λ e has.
           let k = anchored-number n gs e has in
           tight_side n gs e.b e.a _
-          (⊎_elim (λ none. absurd (contains-nil (e.b, e.a) none)) (λ s. s) (r.inner.settled e.b e.a (right_among (anchored_edges n fs) e (subst (λ (xs : List Edge). Contains xs e) back has))))
+          (⊎_elim (λ none. absurd (Contains-nil (e.b, e.a) none)) (λ s. s) (r.inner.settled e.b e.a (right_among (anchored_edges n fs) e (subst (λ (xs : List Edge). Contains xs e) back has))))
           (subst (λ (x : Edge). IsBareSide n.points (prices_of n gs) x.b x.a → (priced (prices_of n gs) x.a x.b).right ≡ pos 0) k.2 (right_zero n gs k.0 b k.1 k.3));
     }

@@ -12,7 +12,7 @@ use Rattle.exact_predicates.specs.PointSet.{IsPointSet}
 use Rattle.exact_predicates.proofs.Numbers.{IsOrdered-points, number_order}
 use Rattle.exact_predicates.proofs.Orientation.{orient_return}
 use Rattle.lmt_network.specs.Skeleton.{AreCrossing, IsSkeletonEdge, AreSkeleton}
-use Rattle.lmt_network.proofs.Picked.{all-from-members, picked_in, picked_from, AllPairs-picked}
+use Rattle.lmt_network.proofs.Picked.{All-from_members, picked_in, picked_from, AllPairs-picked}
 use Rattle.std.specs.List.{items_where_true}
 use Rattle.skeleton_faces.specs.declared.pass.Pass.{Pass}
 use Rattle.skeleton_faces.specs.Marks.{AreUncrossed, IsCrossed, IsMarked, IsOpen, IsPass, nth_edge}
@@ -92,8 +92,8 @@ IsPass-close ps es i pass after up i_in p same opens frees =
       one_each = subst (λ flags. length flags ≡ length es) (sym same) p.one_each;
       only = λ k k_in h. p.only k k_in (subst (λ flags. get_or flags k false ≡ false) same h);
       both = λ j k l k_in h. let b = p.both j k l k_in h in (subst (λ flags. get_or flags k false ≡ false) (sym same) b.0, subst (λ flags. get_or flags j false ≡ false) (sym same) b.1);
-      open_before = all-from-members (λ j. j < i) after.open.items (λ j h. All-contains (λ k. k < i) pass.open.items j p.open_before ((opens j).0 h).0);
-      free_before = all-from-members (λ j. j < i) after.free.items (λ j h. All-contains (λ k. k < i) pass.open.items j p.open_before ((opens j).0 ((frees j).0 h).0).0);
+      open_before = All-from_members (λ j. j < i) after.open.items (λ j h. All-contains (λ k. k < i) pass.open.items j p.open_before ((opens j).0 h).0);
+      free_before = All-from_members (λ j. j < i) after.free.items (λ j h. All-contains (λ k. k < i) pass.open.items j p.open_before ((opens j).0 ((frees j).0 h).0).0);
       open_has = λ j h. opened j h;
       free_has = λ j h on. (frees j).1 (opened j h, subst (λ flags. get_or flags j false ≡ true) same on);
     }
@@ -130,11 +130,11 @@ pub AreSkeleton-chosen : (ps : List Point) (es : List Edge) (flags : List Bool) 
 AreSkeleton-chosen ps es flags up u =
     record {
       ascending = AllPairs-picked EdgePrecedes flags es up;
-      each = all-from-members (IsSkeletonEdge ps es) (items_where_true flags es)
+      each = All-from_members (IsSkeletonEdge ps es) (items_where_true flags es)
           (λ e h. let (k, k_in, on, at_k) = picked_from flags es e h in
           record {
             member = (k, k_in, at_k);
-            uncrossed = all-from-members (λ f. ¬ AreCrossing ps e f) es
+            uncrossed = All-from_members (λ f. ¬ AreCrossing ps e f) es
                 (λ f f_in crossing. absurd (false≢true (sym ((u.crossed k k_in).1 (crossed e k f k_in at_k f_in crossing)) ∙ on)));
           });
       all = λ e s.

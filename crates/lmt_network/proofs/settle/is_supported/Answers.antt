@@ -5,7 +5,7 @@ use Rattle.std.proofs.lemmas.List.Elements.{Contains-get_or}
 use Rattle.lmt_network.specs.Flags.{live_numbers}
 use Rattle.lmt_network.specs.Numbers.{IsSideOf, IsSupported, IsSupportedWith}
 use Rattle.lmt_network.proofs.Picked.{live_from_flag}
-use Rattle.lmt_network.proofs.Settling.{support_of_pair, sides-of_support}
+use Rattle.lmt_network.proofs.Settling.{support_of_pair, sides_of_support}
 use Rattle.lmt_network.proofs.settle.is_supported.Goals as goal
 use Rattle.lmt_network.proofs.settle.is_supported.Goals.{else-sides_are_live-via-then-sides_are_live+else-is_supported_with, else-sides_are_live-via-else-sides_are_live}
 
@@ -37,7 +37,7 @@ returns c = (
   λ no_way. absurd (false≢true no_way),
   λ (s : IsSupported c.args.net.now (live_numbers c.args.flags.now) c.args.e).
       let ls = c.left-l-items.result.now in
-      let sides = sides-of_support c.args.net.now (live_numbers c.args.flags.now) c.args.e (live_from_flag c.args.flags.now c.args.e c.requires.live) s in
+      let sides = sides_of_support c.args.net.now (live_numbers c.args.flags.now) c.args.e (live_from_flag c.args.flags.now c.args.e c.requires.live) s in
       let (k, k_in, at_k) = (c.left-l-items.ensures.members s.l).1 (s.pair.l_in, (s.pair.a, s.pair.left_is)) in
       let is : s.l ≡ slice_index ls k = sym (get_or_default ls k 0 s.l k_in ∙ at_k) in
       let with : IsSupportedWith c.args.net.now (live_numbers c.args.flags.now) c.args.e s.l = record { r = s.r; pair = s.pair; sides = sides.1 } in

@@ -2,7 +2,7 @@ use Rattle.std.proofs.Common.{ℕ, List, [], ◌∷◌, ◌++◌, Contains, refl
 use Rattle.std.proofs.lemmas.Bool.{false≢true}
 use Rattle.lmt_network.specs.Network.{NetworkParts}
 use Rattle.lmt_network.specs.Numbers.{IsHullNumber}
-use Rattle.lmt_network.proofs.Picked.{contains-here}
+use Rattle.lmt_network.proofs.Picked.{Contains-here}
 use Rattle.edge_marks.specs.Told.{Asked, asked}
 use Rattle.edge_marks.proofs.Answering.{look_killed, look_not_killed}
 use Rattle.edge_marks.proofs.Examines.{live_pair_back}
@@ -14,7 +14,7 @@ returns-then-is_hull-clause-told c = ([], refl, (λ _. inl (subst (λ (n : Netwo
 
 pub returns-in-Killed-clause-told : goal.returns-in-Killed-clause-told
 returns-in-Killed-clause-told c = let s = c.look.ensures.step in let e = c.args.e in
-    (asked e s.0 ∷ [], s.2, (λ _. inr (inl (s.0, contains-here (asked e s.0) [], look_killed _ (sym s.1 ∙ c.in-Killed.is)))), λ h. absurd (false≢true h))
+    (asked e s.0 ∷ [], s.2, (λ _. inr (inl (s.0, Contains-here (asked e s.0) [], look_killed _ (sym s.1 ∙ c.in-Killed.is)))), λ h. absurd (false≢true h))
 
 pub returns-in-Supported-clause-told : goal.returns-in-Supported-clause-told
 returns-in-Supported-clause-told c = let s = c.look.ensures.step in let t = c.in-Supported.ensures.told in let e = c.args.e in let first : List Asked = asked e s.0 ∷ [] in (

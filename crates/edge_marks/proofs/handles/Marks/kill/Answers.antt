@@ -1,7 +1,7 @@
 use Rattle.std.proofs.Common.{◌≡◌, ℕ, ◌+◌, ◌*◌, ◌/◌, ◌<◌, ◌≤◌, [], ◌∷◌, length, Contains, sym, ap, ◌∙◌, subst, arith}
 use Rattle.lmt_network.specs.Network.{NetworkParts}
 use Rattle.lmt_network.specs.Numbers.{IsHullNumber, IsBroken}
-use Rattle.lmt_network.proofs.Picked.{contains-here}
+use Rattle.lmt_network.proofs.Picked.{Contains-here}
 use Rattle.edge_marks.specs.declared.view.Known.{Known}
 use Rattle.edge_marks.specs.Handles.{SeatView, MarksView, IsSeated, note_of}
 use Rattle.edge_marks.specs.Plays.{Sitting, begun_view, marked_view, ended_view}
@@ -72,10 +72,10 @@ returns-clause-kept c = let now = note_written _ _ _ _ _ c.seat.invariant c.args
     (remembers_kill c.begun-begun.result c.finished-finished.result c.args.e c.fetch_add.result c.fetch_or-word.result c.fetch_add-2.result c.seat.inside.place.me.0 low)
 
 pub returns-clause-tried : goal.returns-clause-tried
-returns-clause-tried c = subst (λ (m : Sitting). Contains m.0.tried c.args.e) (sym (after c)) (contains-here c.args.e c.seat.inside.place.me.0.tried)
+returns-clause-tried c = subst (λ (m : Sitting). Contains m.0.tried c.args.e) (sym (after c)) (Contains-here c.args.e c.seat.inside.place.me.0.tried)
 
 pub returns-clause-seen : goal.returns-clause-seen
-returns-clause-seen c = subst (λ (m : Sitting). Contains m.0.seen c.args.e) (sym (after c)) (contains-here c.args.e c.seat.inside.place.me.0.seen)
+returns-clause-seen c = subst (λ (m : Sitting). Contains m.0.seen c.args.e) (sym (after c)) (Contains-here c.args.e c.seat.inside.place.me.0.seen)
 
 pub returns-clause-steps : goal.returns-clause-steps
 returns-clause-steps c = let b = c.begun-begun.ensures in let b' = c.finished-finished.ensures in (

@@ -1,7 +1,7 @@
 use Rattle.std.proofs.Common.{◌≡◌, ◌∙◌}
 use Rattle.lmt_network.specs.Network.{NetworkParts}
 use Rattle.lmt_network.specs.Tables.{AreSideKeys}
-use Rattle.lmt_network.proofs.Builds.{hull_there, sides-there, network_of}
+use Rattle.lmt_network.proofs.Builds.{hull_there, sides_there, network_of}
 use Rattle.lmt_network.proofs.Rows.{keys_below}
 use Rattle.lmt_network.proofs.network.Network.build.Goals as goal
 
@@ -13,7 +13,7 @@ hull_flags-requires-clause-there c =
 pub side_keys-requires-clause-over : goal.side_keys-requires-clause-over
 side_keys-requires-clause-over c =
     rw (c.as_slice-4.ensures.is, c.as_slice-3.ensures.is)
-    (sides-there c.args.points.now.points c.args.edges c.args.tris c.requires.triangles)
+    (sides_there c.args.points.now.points c.args.edges c.args.tris c.requires.triangles)
 
 pub row_starts-requires-clause-in_range : goal.row_starts-requires-clause-in_range
 row_starts-requires-clause-in_range c =
@@ -27,6 +27,11 @@ rows-requires-clause-in_range c =
     let keys : AreSideKeys c.args.edges c.args.tris c.in_ok-keys.keys.items = rw (c.as_slice-3.ensures.is, c.as_slice-4.ensures.is) at c.in_ok-keys.ensures in
     rw (c.deref-2.ensures.value, c.len-2.ensures) (keys_below n c.in_ok-keys.keys.items keys)
 
+pub weights-requires-clause-ends_in : goal.weights-requires-clause-ends_in
+weights-requires-clause-ends_in c =
+    rw (c.as_slice-7.ensures.is, c.deref-4.ensures.value, c.in_ok-points.ensures.items, c.as_slice-5.ensures.is)
+    (λ k d k_in. (c.requires.candidates.1.each k d k_in).b_in)
+
 pub invariant_of-result : goal.invariant_of-result
 invariant_of-result c =
     let points : c.in_ok-points.points.items ≡ c.args.points.now.points = c.in_ok-points.ensures.items ∙ c.as_slice-5.ensures.is in
@@ -35,6 +40,7 @@ invariant_of-result c =
     record {
       network = rw (points, hull) (network_of n c.requires.candidates.0 c.as_slice-5.ensures.valid c.requires.hull_is c.requires.candidates.1 c.requires.triangles c.requires.few_edges c.requires.few_tris);
       flags = rw hull (rw (c.as_slice-2.ensures.is, c.as_slice.ensures.is) at c.in_ok-on_hull.ensures);
+      weights = rw (c.deref-4.ensures.value, c.as_slice-7.ensures.is) at c.in_ok-weights.ensures;
       keys = rw (c.as_slice-3.ensures.is, c.as_slice-4.ensures.is) at c.in_ok-keys.ensures;
       starts = rw (c.deref.ensures.value, c.len.ensures) at c.in_ok-starts.ensures;
       rows = rw (c.deref-2.ensures.value, c.len-2.ensures) at c.in_ok-rows.ensures;

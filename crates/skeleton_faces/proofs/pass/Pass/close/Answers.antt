@@ -2,7 +2,7 @@
 use Rattle.std.proofs.Common.{◌≡◌, ◌<◌, Contains, length, get_or, refl, arith}
 use Rattle.std.proofs.lemmas.List.{get_or_default}
 use Rattle.std.proofs.lemmas.List.Elements.{All-contains}
-use Rattle.lmt_network.proofs.Picked.{all-from-members}
+use Rattle.lmt_network.proofs.Picked.{All-from_members}
 use Rattle.skeleton_faces.specs.Marks.{nth_edge}
 use Rattle.skeleton_faces.proofs.Passes.{IsPass-close}
 use Rattle.skeleton_faces.proofs.pass.Pass.close.Goals as goal
@@ -10,7 +10,7 @@ use Rattle.skeleton_faces.proofs.pass.Pass.close.Goals as goal
 pub flagged-requires : goal.flagged-requires
 flagged-requires c =
     rw (c.deref-2.ensures.value, c.deref-3.ensures.value, c.requires.pass.one_each)
-    (all-from-members (λ j. j < length c.args.edges.now) c.in_ok-self.field-0.items
+    (All-from_members (λ j. j < length c.args.edges.now) c.in_ok-self.field-0.items
     (λ j h.
     let was : Contains c.args.self.now.open.items j = rw c.deref.ensures.value at ((c.in_ok-self.ensures j).0 h).0 in
     let before = All-contains (λ k. k < c.args.i) c.args.self.now.open.items j c.requires.pass.open_before was in
