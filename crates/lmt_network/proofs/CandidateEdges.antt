@@ -13,46 +13,23 @@ use Rattle.exact_predicates.specs.PointSet.{point_at}
 use Rattle.exact_predicates.specs.Triangulation.{HasCorners, IsCorner, IsEmpty, sides, is_inner}
 use Rattle.exact_predicates.specs.Candidates.{Joins, IsCandidate}
 use Rattle.exact_predicates.proofs.Between.{IsBetween-turned}
-use Rattle.exact_predicates.proofs.Corners.{turned_corners}
+use Rattle.exact_predicates.proofs.Corners.{IsBare-corners}
 use Rattle.exact_predicates.proofs.Rings.{place_of_pair}
 use Rattle.lmt_network.proofs.Filters.{filter-from, side_from}
-use Rattle.lmt_network.proofs.MinimalPairs.{turned_empty}
 use Rattle.lmt_network.proofs.Segments.{between_inside, between_no_end}
 use Rattle.lmt_network.proofs.SideEdges.{IsEnds, pair, inside, ends_of}
 use Rattle.lmt_network.specs.FlipMinimal.{EdgesAreCandidates}
 
--- where a point lies in the triangle, from any corner on
-inside_turned : (ps : List Point) (t : Tri) (u v w : ℕ) (r : Point) → HasCorners t u v w → IsInClosedTriangle (point_at ps u) (point_at ps v) (point_at ps w) r
-    → IsInClosedTriangle (point_at ps t.a) (point_at ps t.b) (point_at ps t.c) r
-inside_turned ps t u v w r h i =
-    let P : ℕ → ℕ → ℕ → Type 0 = λ x y z. IsInClosedTriangle (point_at ps x) (point_at ps y) (point_at ps z) r in
-    ⊎_elim
-    (λ c. moved P c i)
-    (λ m. ⊎_elim
-    (λ c. moved P (c.2, c.0, c.1) (record { left_of_ab = i.left_of_ca; left_of_bc = i.left_of_ab; left_of_ca = i.left_of_bc }))
-    (λ c. moved P (c.1, c.2, c.0) (record { left_of_ab = i.left_of_bc; left_of_bc = i.left_of_ca; left_of_ca = i.left_of_ab }))
-    m)
-    h
-  where
-    moved : {x y z x' y' z' : ℕ} (P : ℕ → ℕ → ℕ → Type 0) → (x ≡ x') × (y ≡ y') × (z ≡ z') → P x' y' z' → P x y z
-    moved {x} {y} {z} {x'} {y'} {z'} P c h =
-        subst (λ (p : ℕ). P p y z) (sym c.0) (subst (λ (q : ℕ). P x' q z) (sym c.1) (subst (λ (s : ℕ). P x' y' s) (sym c.2) h))
-
 -- no point is between two corners of an empty triangle
 none_between : (ps : List Point) (t : Tri) (u v w r : ℕ) → IsEmpty ps t → HasCorners t u v w → r < length ps → ¬ IsBetween (point_at ps u) (point_at ps v) (point_at ps r)
 none_between ps t u v w r h corners r_in b =
-    let area = (turned_empty ps t u v w h corners).1 in
+    let bare = IsBare-corners ps t u v w corners h in
+    let area = bare.turns_left in
     let at_u : r ≢ u = λ e. between_no_end (point_at ps u) (point_at ps v) (subst (λ (x : ℕ). IsBetween (point_at ps u) (point_at ps v) (point_at ps x)) e b) in
     let at_v : r ≢ v = λ e. between_no_end (point_at ps v) (point_at ps u) (IsBetween-turned (point_at ps u) (point_at ps v) (point_at ps v) (subst (λ (x : ℕ). IsBetween (point_at ps u) (point_at ps v) (point_at ps x)) e b)) in
     let at_w : r ≢ w = λ e. let line : orient (point_at ps u) (point_at ps v) (point_at ps w) ≡ pos 0 = ap (λ x. orient (point_at ps u) (point_at ps v) (point_at ps x)) (sym e) ∙ b.on_line in absurd (omega (arith, ints)) in
-    let corner : IsCorner t r = h.bare r r_in (inside_turned ps t u v w (point_at ps r) corners (between_inside (point_at ps u) (point_at ps v) (point_at ps w) (point_at ps r) b area)) in
-    ⊎_elim
-    (λ c. ⊎_elim (λ e. at_u (e ∙ c.0)) (λ o. ⊎_elim (λ e. at_v (e ∙ c.1)) (λ e. at_w (e ∙ c.2)) o) corner)
-    (λ m. ⊎_elim
-    (λ c. ⊎_elim (λ e. at_w (e ∙ c.2)) (λ o. ⊎_elim (λ e. at_u (e ∙ c.0)) (λ e. at_v (e ∙ c.1)) o) corner)
-    (λ c. ⊎_elim (λ e. at_v (e ∙ c.1)) (λ o. ⊎_elim (λ e. at_w (e ∙ c.2)) (λ e. at_u (e ∙ c.0)) o) corner)
-    m)
-    corners
+    ⊎_elim at_u (λ m. ⊎_elim at_v at_w m)
+    (bare.bare r r_in (between_inside (point_at ps u) (point_at ps v) (point_at ps w) (point_at ps r) b area))
 
 -- an edge is a candidate with the test off, by its ends
 candidate_off : (ps : List Point) (hull : List ℕ) (e : Edge) (u v : ℕ) → Joins e u v → u < length ps → v < length ps
@@ -96,6 +73,5 @@ candidates_law ps hull tris hull_is are e h =
         let (k, t, k_in, at_k, side) = side_from tris u v (filter-from (is_inner hull) (flat_map sides tris) (u, v) has).0 in
         let w = side.0 in
         let empty = All-contains (IsEmpty ps) tris t are.empty (k, k_in, at_k) in
-        let u_in = (turned_empty ps t v w u empty (turned_corners t u v w side.1)).0 in
-        let v_in = (turned_empty ps t w u v empty (turned_corners t v w u (turned_corners t u v w side.1))).0 in
-        candidate_off ps hull e u v joins u_in v_in (λ r r_in. none_between ps t u v w r empty side.1 r_in)
+        let bare = IsBare-corners ps t u v w side.1 empty in
+        candidate_off ps hull e u v joins bare.u_in bare.v_in (λ r r_in. none_between ps t u v w r empty side.1 r_in)

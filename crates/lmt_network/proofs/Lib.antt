@@ -33,4 +33,5 @@ pub mod Skeletons
 pub mod Slacks
 pub mod Starts
 pub mod Tallies
+pub mod Uniqueness
 pub mod Weights

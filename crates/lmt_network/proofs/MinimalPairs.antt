@@ -13,20 +13,6 @@ use Rattle.exact_predicates.proofs.Orientation.{orient_turned}
 use Rattle.lmt_network.specs.Network.{NetworkParts, edge_at, tri_at}
 use Rattle.lmt_network.specs.Numbers.{HasSide, IsMinimalPair}
 
--- the corners of an empty triangle from any of them on
-pub turned_empty : (ps : List Point) (t : Tri) (u v w : ℕ) → IsEmpty ps t → HasCorners t u v w
-    → (w < length ps) × (pos 0 <ℤ orient (point_at ps u) (point_at ps v) (point_at ps w))
-turned_empty ps t u v w h k =
-    let P : ℕ → ℕ → ℕ → Type 0 = λ x y z. (z < length ps) × (pos 0 <ℤ orient (point_at ps x) (point_at ps y) (point_at ps z)) in
-    let a = point_at ps t.a in let b = point_at ps t.b in let c = point_at ps t.c in
-    ⊎_elim
-    (λ e. subst (λ (x : ℕ). P x v w) e.0 (subst (λ (y : ℕ). P t.a y w) e.1 (subst (λ (z : ℕ). P t.a t.b z) e.2 (h.c_in, h.turns_left))))
-    (λ m. ⊎_elim
-    (λ e. subst (λ (x : ℕ). P x v w) e.0 (subst (λ (y : ℕ). P t.b y w) e.1 (subst (λ (z : ℕ). P t.b t.c z) e.2 (h.a_in, rw (orient_turned a b c) h.turns_left))))
-    (λ e. subst (λ (x : ℕ). P x v w) e.0 (subst (λ (y : ℕ). P t.c y w) e.1 (subst (λ (z : ℕ). P t.c t.a z) e.2 (h.b_in, rw (orient_turned b c a, orient_turned a b c) h.turns_left))))
-    m)
-    k
-
 -- The points of a pair: of the edge and of the two apexes.
 pub record IsPairOf (n : NetworkParts) (e l r : ℕ) (edge : Edge) (left right : Tri) (a b : ℕ) : Type 0 where
   pub edge_is : edge ≡ edge_at n e

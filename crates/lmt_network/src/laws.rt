@@ -8,8 +8,8 @@ ghost use Rattle.lmt_network.specs.PriceTables.{TablesAreByNumber, TablesPriceLi
 ghost use Rattle.lmt_network.specs.Skeleton.{OneSkeleton, SkeletonInTriangulation, SkeletonInFlipMinimal, HullInSkeleton};
 ghost use Rattle.lmt_network.specs.Uniqueness.{OneCandidateList, OneLiveList};
 
-/// The laws that a set of points with its hull has one list of candidate edges and one live list,
-/// so that both are functions of it and of the value of the diamond test.
+/// The laws that the points of a problem have one list of candidate edges and one live list, so that
+/// both are functions of the points and of the value of the diamond test.
 pub fn unique_list_laws()
     ensures candidates { OneCandidateList }
     ensures live { OneLiveList }

@@ -1,30 +1,31 @@
 use Rattle.std.proofs.Common.{◌<◌, ◌≤◌, arith}
 use Rattle.std.proofs.lemmas.Bool.Decides.{nat_tests}
 use Rattle.exact_predicates.specs.Plane.{d2}
-use Rattle.lmt_network.proofs.MinimalPairs.{turned_empty, short_minimal, long_minimal, side_left, side_right}
+use Rattle.exact_predicates.proofs.Corners.{IsBare-corners}
+use Rattle.lmt_network.proofs.MinimalPairs.{short_minimal, long_minimal, side_left, side_right}
 use Rattle.lmt_network.proofs.network.Network.minimal_pair.Goals as goal
 
 pub point-a-requires : goal.point-a-requires
 point-a-requires c =
     let side = side_left c.args.self.now c.args.e c.args.l c.edge-edge.result c.tri.result c.edge-edge.ensures.value c.tri.ensures.value c.requires.on_left.1 in
-    (turned_empty c.args.self.now.points c.tri.result _ _ c.apex.result c.tri.ensures.empty.empty (c.apex.ensures _ side)).0
+    (IsBare-corners c.args.self.now.points c.tri.result _ _ c.apex.result (c.apex.ensures _ side) c.tri.ensures.empty.empty).w_in
 
 pub point-b-requires : goal.point-b-requires
 point-b-requires c =
     let side = side_right c.args.self.now c.args.e c.args.r c.edge-edge.result c.tri-2.result c.edge-edge.ensures.value c.tri-2.ensures.value c.requires.on_right.1 in
-    (turned_empty c.args.self.now.points c.tri-2.result _ _ c.apex-2.result c.tri-2.ensures.empty.empty (c.apex-2.ensures _ side)).0
+    (IsBare-corners c.args.self.now.points c.tri-2.result _ _ c.apex-2.result (c.apex-2.ensures _ side) c.tri-2.ensures.empty.empty).w_in
 
 pub strictly_convex-requires-clause-a_left : goal.strictly_convex-requires-clause-a_left
 strictly_convex-requires-clause-a_left c =
     let side = side_left c.args.self.now c.args.e c.args.l c.edge-edge.result c.tri.result c.edge-edge.ensures.value c.tri.ensures.value c.requires.on_left.1 in
     rw (c.point-u.ensures.value, c.point-v.ensures.value, c.point-a.ensures.value)
-    (turned_empty c.args.self.now.points c.tri.result _ _ c.apex.result c.tri.ensures.empty.empty (c.apex.ensures _ side)).1
+    (IsBare-corners c.args.self.now.points c.tri.result _ _ c.apex.result (c.apex.ensures _ side) c.tri.ensures.empty.empty).turns_left
 
 pub strictly_convex-requires-clause-b_right : goal.strictly_convex-requires-clause-b_right
 strictly_convex-requires-clause-b_right c =
     let side = side_right c.args.self.now c.args.e c.args.r c.edge-edge.result c.tri-2.result c.edge-edge.ensures.value c.tri-2.ensures.value c.requires.on_right.1 in
     rw (c.point-u.ensures.value, c.point-v.ensures.value, c.point-b.ensures.value)
-    (turned_empty c.args.self.now.points c.tri-2.result _ _ c.apex-2.result c.tri-2.ensures.empty.empty (c.apex-2.ensures _ side)).1
+    (IsBare-corners c.args.self.now.points c.tri-2.result _ _ c.apex-2.result (c.apex-2.ensures _ side) c.tri-2.ensures.empty.empty).turns_left
 
 pub returns-then-d2 : goal.returns-then-d2
 returns-then-d2 c =
