@@ -1,5 +1,5 @@
 -- With the diamond test off the edges of triangulations are candidates.
-use Rattle.std.proofs.Common.{◌≡◌, ◌≢◌, ◌⊎◌, ℕ, ◌+◌, ◌<◌, ◌≤◌, List, length, flat_map, ap, sym, ◌∙◌, subst, ⊎_elim, arith, pos}
+use Rattle.std.proofs.Common.{◌≡◌, ◌≢◌, ℕ, ◌+◌, ◌<◌, ◌≤◌, List, length, flat_map, ap, sym, ◌∙◌, subst, ⊎_elim, arith, pos}
 use Rattle.std.proofs.lemmas.Bool.{cases_lt}
 use Rattle.std.proofs.lemmas.Int.{ints}
 use Rattle.std.proofs.lemmas.List.Elements.{All-contains}
@@ -8,9 +8,9 @@ use Rattle.exact_predicates.specs.declared.edge.Edge.{Edge}
 use Rattle.exact_predicates.specs.declared.point.Point.{Point}
 use Rattle.exact_predicates.specs.declared.tri.Tri.{Tri}
 use Rattle.exact_predicates.specs.Hull.{IsHull, IsHullPair}
-use Rattle.exact_predicates.specs.Plane.{orient, IsBetween, IsInClosedTriangle}
+use Rattle.exact_predicates.specs.Plane.{orient, IsBetween}
 use Rattle.exact_predicates.specs.PointSet.{point_at}
-use Rattle.exact_predicates.specs.Triangulation.{HasCorners, IsCorner, IsEmpty, sides, is_inner}
+use Rattle.exact_predicates.specs.Triangulation.{HasCorners, IsEmpty, sides, is_inner}
 use Rattle.exact_predicates.specs.Candidates.{Joins, IsCandidate}
 use Rattle.exact_predicates.proofs.Between.{IsBetween-turned}
 use Rattle.exact_predicates.proofs.Corners.{IsBare-corners}

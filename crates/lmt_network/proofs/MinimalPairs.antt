@@ -1,15 +1,14 @@
 -- Locally minimal pairs, by the points of their quadrilateral.
-use Rattle.std.proofs.Common.{◌≡◌, ◌⊎◌, ◌↔◌, ℕ, ◌<◌, ◌≤◌, Bool, List, length, IsTrue, sym, ◌∙◌, subst, ⊎_elim, inl, inr, arith, pos, ◌<ℤ◌, not, ap}
+use Rattle.std.proofs.Common.{◌≡◌, ◌⊎◌, ◌↔◌, ℕ, ◌<◌, ◌≤◌, Bool, List, length, IsTrue, sym, ◌∙◌, subst, ⊎_elim, inl, inr, arith, not, ap}
 use Rattle.std.proofs.lemmas.Bool.{false≢true, cases_Bool}
 use Rattle.exact_predicates.specs.declared.edge.Edge.{Edge}
 use Rattle.exact_predicates.specs.declared.point.Point.{Point}
 use Rattle.exact_predicates.specs.declared.tri.Tri.{Tri}
-use Rattle.exact_predicates.specs.Plane.{orient, d2, Crosses}
+use Rattle.exact_predicates.specs.Plane.{d2, Crosses}
 use Rattle.exact_predicates.specs.PointSet.{point_at}
-use Rattle.exact_predicates.specs.Triangulation.{HasCorners, IsEmpty}
+use Rattle.exact_predicates.specs.Triangulation.{HasCorners}
 use Rattle.exact_predicates.specs.Flip.{IsMinimalBetween}
 use Rattle.exact_predicates.proofs.Corners.{corner_once}
-use Rattle.exact_predicates.proofs.Orientation.{orient_turned}
 use Rattle.lmt_network.specs.Network.{NetworkParts, edge_at, tri_at}
 use Rattle.lmt_network.specs.Numbers.{HasSide, IsMinimalPair}
 

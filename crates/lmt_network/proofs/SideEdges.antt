@@ -1,13 +1,12 @@
 -- The edges of a triangulation, from the sides of its triangles and the pairs of the hull.
-use Rattle.std.proofs.Common.{◌≡◌, ◌≢◌, ◌⊎◌, ℕ, ◌<◌, ◌≤◌, List, filter, flat_map, Contains, refl, sym, ◌∙◌, subst, ⊎_elim, inl, inr, arith}
-use Rattle.std.proofs.lemmas.Bool.{false≢true, cases_lt, cases_Bool}
+use Rattle.std.proofs.Common.{◌≡◌, ◌≢◌, ℕ, ◌<◌, ◌≤◌, List, filter, flat_map, Contains, refl, subst, ⊎_elim, inl, inr, arith}
+use Rattle.std.proofs.lemmas.Bool.{cases_lt}
 use Rattle.std.proofs.lemmas.List.Elements.{All-contains}
-use Rattle.std.specs.List.{list_any}
 use Rattle.exact_predicates.specs.declared.edge.Edge.{Edge}
 use Rattle.exact_predicates.specs.declared.point.Point.{Point}
 use Rattle.exact_predicates.specs.declared.tri.Tri.{Tri}
 use Rattle.exact_predicates.specs.Hull.{IsHullPair, ring_pairs}
-use Rattle.exact_predicates.specs.Triangulation.{IsEmpty, IsTriangulation, sides, is_side, is_inner, edges}
+use Rattle.exact_predicates.specs.Triangulation.{IsEmpty, IsTriangulation, sides, is_inner}
 use Rattle.exact_predicates.specs.Candidates.{Joins, HasEdge, IsEmptyOver}
 use Rattle.exact_predicates.proofs.Elements.{Any-append_left, Any-append_right, Any-append_cases}
 use Rattle.exact_predicates.proofs.Equalities.{Joins-comm, HasEdge-Contains}
