@@ -33,5 +33,6 @@ pub mod Skeletons
 pub mod Slacks
 pub mod Starts
 pub mod Tallies
+pub mod TriangleSides
 pub mod Uniqueness
 pub mod Weights

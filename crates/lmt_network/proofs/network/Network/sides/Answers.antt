@@ -1,7 +1,7 @@
 use Rattle.std.proofs.Common.{◌/◌, ◌<◌, length, subst, sym}
 use Rattle.lmt_network.specs.Inside.{parts_of}
 use Rattle.lmt_network.specs.Network.{NetworkParts}
-use Rattle.lmt_network.proofs.Rows.{AreSidesOf, sides_read}
+use Rattle.lmt_network.proofs.TriangleSides.{AreSidesOf, sides_read}
 use Rattle.lmt_network.proofs.network.Network.sides.Goals as goal
 
 pub returns-clause-ab : goal.returns-clause-ab
