@@ -1,10 +1,10 @@
 -- Places in an ascending list of edges.
-use Rattle.std.proofs.Common.{◌≡◌, ℕ, ◌+◌, ◌-◌, ◌<◌, ◌≤◌, ◌↔◌, Bool, true, false, IsTrue, eqb, ◌&&◌, Decides, List, length, get_or, map, take, drop, AllPairs, Contains, inl, inr, ⊎_elim, arith, sym, ap, ◌∙◌, subst}
+use Rattle.std.proofs.Common.{◌≡◌, ℕ, ◌+◌, ◌-◌, ◌<◌, ◌≤◌, ◌↔◌, Bool, true, false, IsTrue, eqb, ◌&&◌, Decides, Option, Some, None, IfSome, is_some, List, length, get_or, map, take, drop, AllPairs, Contains, inl, inr, ⊎_elim, arith, refl, sym, ap, ◌∙◌, subst}
 use Rattle.std.proofs.lemmas.Bool.{cases_lt}
 use Rattle.std.proofs.lemmas.Bool.Decides.{Decides-or, Decides-and, Decides-ltb, Decides-eqb, Decides-at, not_from_Decides}
 use Rattle.std.proofs.lemmas.List.{get_or_default, get_or-map, get_or-take, get_or-drop, length-map, length-take, length-drop}
 use Rattle.std.specs.List.Sorted.{IsPartitionedBy}
-use Rattle.std.specs.List.{AllWithin}
+use Rattle.std.specs.List.{AllWithin, HoldsAt}
 use Rattle.exact_predicates.specs.declared.edge.Edge.{Edge}
 use Rattle.exact_predicates.specs.Candidates.{EdgePrecedes, IsEdgeBefore, Joins, HasEdge}
 use Rattle.exact_predicates.proofs.Equalities.{HasEdge-Contains, Contains-HasEdge}
@@ -35,21 +35,6 @@ IsPlaceOf-partition es a b k l before after = record {
   before = λ i d m. (Decides-is_edge_before a b (get_or es i d)).0 (before i d (omega arith) m);
   after = λ i d m n. not_from_Decides _ (Decides-is_edge_before a b (get_or es i d)) (after i d m n);
 }
-
--- an edge that is listed stands at its place
-pub at_place : (es : List Edge) (e : Edge) (k : ℕ) → AllPairs EdgePrecedes es → IsPlaceOf es e.a e.b k → Contains es e → (k < length es) × (get_or es k e ≡ e)
-at_place es e k up p (m, m_in, at_m) =
-    let not_before : ¬ (m < k) = λ l. irreflexive (subst (IsEdgeBefore e.a e.b) at_m (p.before m e l)) in
-    let l : k ≤ m = ⊎_elim (λ h. absurd (not_before h)) (λ h. h) (cases_lt m k) in (
-      omega arith,
-      ⊎_elim
-          (λ h. absurd (p.after k e (omega arith) (omega arith) (subst (λ f. IsEdgeBefore f.a f.b (get_or es k e)) at_m (up k m e h m_in))))
-          (λ h. let same : m ≡ k = omega arith in subst (λ (i : ℕ). get_or es i e ≡ e) same at_m)
-          (cases_lt k m),
-    )
-  where
-    irreflexive : IsEdgeBefore e.a e.b e → ⊥
-    irreflexive h = ⊎_elim (λ l. omega arith) (λ r. let r1 = r.1 in omega arith) h
 
 -- the edges of a row stand together
 pub row_rises : (es : List Edge) (a from to : ℕ) → IsPlaceOf es a 0 from → IsPlaceOf es (a + 1) 0 to → from ≤ to
@@ -135,13 +120,9 @@ IsRow-part es a from to row up p q is =
         let same : get_or es (from + (m - from)) some ≡ e = ap (λ i. get_or es i some) back ∙ (get_or_default es m some e m_in ∙ at_m) in
         (m - from, omega (arith, size, length-map (part es from to) (λ (x : Edge). x.b)), read (m - from) b (omega arith) ∙ (ap (λ (x : Edge). x.b) same ∙ eb))
 
--- an edge is listed where what stands at its place has its ends
-pub HasEdge-at_place : (es : List Edge) (e f : Edge) (k u v : ℕ) (same : Bool) → AllPairs EdgePrecedes es → Joins e u v → IsPlaceOf es e.a e.b k → k < length es → f ≡ get_or es k f
-    → same ≡ (eqb f.a e.a && eqb f.b e.b) → IsTrue same ↔ HasEdge es u v
-HasEdge-at_place es e f k u v same up j p k_in at_k test =
-    let decided = Decides-at same _ test (Decides-and _ _ (Decides-eqb f.a e.a) (Decides-eqb f.b e.b)) in (
-      λ h. let ends = decided.0 h in HasEdge-Contains es f u v (ends.0 ∙ j.0, ends.1 ∙ j.1) (k, k_in, sym at_k),
-      λ h. let placed = at_place es e k up p (Contains-HasEdge es e u v j h) in
-          let is : f ≡ e = at_k ∙ (get_or_default es k f e k_in ∙ placed.1) in
-          decided.1 (ap (λ (x : Edge). x.a) is, ap (λ (x : Edge). x.b) is),
-    )
+-- whether an edge is found
+pub HasEdge-found : (es : List Edge) (u v : ℕ) (r : Option ℕ) → IfSome r (λ k. k < length es) → IfSome r (HoldsAt (λ e. Joins e u v) es) → (r ≡ None → ¬ HasEdge es u v) → IsTrue (is_some r) ↔ HasEdge es u v
+HasEdge-found es u v None within joins none = (λ t. absurd (cc), λ h. absurd (none refl h))
+HasEdge-found es u v (Some k) within joins none =
+    let some : Edge = record { a = 0; b = 1; ascending = omega arith } in
+    (λ _. (k, get_or es k some, within, get_or_default es k (get_or es k some) some within, joins some), λ _. refl)

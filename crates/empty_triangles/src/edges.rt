@@ -4,7 +4,7 @@ ghost use Rattle.mwt_base.specs.Limits.{most_points};
 ghost use Rattle.exact_predicates.specs.Candidates.{EdgePrecedes, HasEdge};
 ghost use Rattle.empty_triangles.specs.Enumeration.{is_edge_before, IsPlaceOf, IsRow};
 
-use exact_predicates::Edge;
+use exact_predicates::{Edge, place_of_edge};
 use mwt_base::NoMemory;
 use std::alloc::Global;
 
@@ -25,9 +25,7 @@ pub(crate) fn has_edge(edges: &[Edge], u: u32, v: u32) -> bool
     requires apart { u ≢ v }
     ensures { IsTrue result ↔ HasEdge edges.now u v }
 {
-    let edge = Edge::of(u, v);
-    let k = place_of(edges, edge.a, edge.b);
-    k < edges.len() && edges[k] == edge
+    place_of_edge(edges, u, v).is_some()
 }
 
 /// The place of the first edge that does not come before the one with the ends `a` and `b`.

@@ -130,8 +130,16 @@ cross_four ax ay bx by cx cy dx dy =
     (times (less (times (var 0) (var 7)) (times (var 1) (var 6))) (less (times (var 2) (var 5)) (times (var 3) (var 4)))))
     (omega arith)
 
+-- three vectors to the left of u: from x not to the right to y, and from there to the left to z, is to the left
+pub cross_onward : (ux uy xx xy yx yy zx zy : ℤ) → pos 0 <ℤ cross ux uy xx xy → pos 0 <ℤ cross ux uy yx yy → pos 0 <ℤ cross ux uy zx zy
+    → pos 0 ≤ℤ cross xx xy yx yy → pos 0 <ℤ cross yx yy zx zy → pos 0 <ℤ cross xx xy zx zy
+cross_onward ux uy xx xy yx yy zx zy hx hy hz xy_ yz =
+    let m = mul-pos (cross ux uy xx xy) (cross yx yy zx zy) hx yz in
+    let n = mul-nonneg (cross ux uy zx zy) (cross xx xy yx yy) (omega (arith, ints)) xy_ in
+    pos-from-mul (cross ux uy yx yy) (cross xx xy zx zy) hy (rw (cross_four ux uy xx xy yx yy zx zy) (omega (arith, ints)))
+
 -- the turn at the second of three points
-orient_at_second : (a b c : Point) → orient a b c ≡ cross (b.x -ℤ a.x) (b.y -ℤ a.y) (c.x -ℤ b.x) (c.y -ℤ b.y)
+pub orient_at_second : (a b c : Point) → orient a b c ≡ cross (b.x -ℤ a.x) (b.y -ℤ a.y) (c.x -ℤ b.x) (c.y -ℤ b.y)
 unfolding orient
 orient_at_second a b c =
     ring (coordinates (a ∷ b ∷ c ∷ [])) (orient_term 0 2 4)
@@ -144,10 +152,4 @@ pub left_turn_strict : (a b x y z : Point) → pos 0 <ℤ orient a b x → pos 0
 unfolding orient
 left_turn_strict a b x y z =
     rw (orient_at_second a b x, orient_at_second a b y, orient_at_second a b z)
-    (λ hx hy hz xy yz.
-    let ux = b.x -ℤ a.x in
-    let uy = b.y -ℤ a.y in
-    let m = mul-pos (cross ux uy (x.x -ℤ b.x) (x.y -ℤ b.y)) (cross (y.x -ℤ b.x) (y.y -ℤ b.y) (z.x -ℤ b.x) (z.y -ℤ b.y)) hx yz in
-    let n = mul-nonneg (cross ux uy (z.x -ℤ b.x) (z.y -ℤ b.y)) (cross (x.x -ℤ b.x) (x.y -ℤ b.y) (y.x -ℤ b.x) (y.y -ℤ b.y)) (omega (arith, ints)) xy in
-    pos-from-mul (cross ux uy (y.x -ℤ b.x) (y.y -ℤ b.y)) (cross (x.x -ℤ b.x) (x.y -ℤ b.y) (z.x -ℤ b.x) (z.y -ℤ b.y)) hy
-    (rw (cross_four ux uy (x.x -ℤ b.x) (x.y -ℤ b.y) (y.x -ℤ b.x) (y.y -ℤ b.y) (z.x -ℤ b.x) (z.y -ℤ b.y)) (omega (arith, ints))))
+    (cross_onward (b.x -ℤ a.x) (b.y -ℤ a.y) (x.x -ℤ b.x) (x.y -ℤ b.y) (y.x -ℤ b.x) (y.y -ℤ b.y) (z.x -ℤ b.x) (z.y -ℤ b.y))
