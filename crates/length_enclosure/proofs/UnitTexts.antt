@@ -1,5 +1,5 @@
 -- What is read of a text is a number exactly where it is an amount in range.
-use Rattle.std.proofs.Common.{◌≡◌, ◌↔◌, ℕ, ℤ, ◌^◌, ◌<◌, ◌≤◌, Bool, true, false, not, leb, cond, List, unsigned_abs, sym, ap, ◌∙◌, refl}
+use Rattle.std.proofs.Common.{◌≡◌, ◌↔◌, ℕ, ℤ, ◌<◌, ◌≤◌, Bool, true, false, not, leb, cond, List, unsigned_abs, sym, ap, ◌∙◌, refl}
 use Rattle.std.proofs.lemmas.Bool.{leb-true, leb-false, le-leb, lt-leb}
 use Rattle.mwt_base.specs.Limits.{most_amount}
 use Rattle.length_enclosure.specs.declared.units.Units.{Units}

@@ -1,5 +1,5 @@
 -- What is read of a text that may be an amount.
-use Rattle.std.specs.Prelude.{◌^◌, List, ℕ, unsigned_abs, nat_le, not, if◌then◌else◌}
+use Rattle.std.specs.Prelude.{List, ℕ, unsigned_abs, nat_le, not, if◌then◌else◌}
 use Rattle.mwt_base.specs.Limits.{most_amount}
 use Rattle.length_enclosure.specs.declared.units.Units.{Units}
 use Rattle.length_enclosure.specs.declared.units.Units.TheVariants.{Value, Outside, NoAmount}

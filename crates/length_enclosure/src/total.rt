@@ -1,14 +1,14 @@
 // The enclosure of a triangulation's length.
 ghost use Rattle.std.specs.Prelude.{◌≡◌, ℕ, ◌+◌, ◌*◌, ◌^◌, ◌<◌, ◌≤◌, pos, [], ◌∷◌, length, All, filter};
-ghost use Rattle.mwt_base.specs.Limits.{most_tiles};
+ghost use Rattle.mwt_base.specs.Limits.{most_length, most_tiles};
 ghost use Rattle.exact_predicates.specs.Hull.{IsHull, ring_pairs};
-ghost use Rattle.exact_predicates.specs.Triangulation.{sides, is_inner, edges};
+ghost use Rattle.exact_predicates.specs.Triangulation.{IsTriangulation, sides, is_inner, edges};
 ghost use Rattle.exact_predicates.specs.Length.{IsAtLeast, IsAtMost};
 ghost use Rattle.length_enclosure.specs.Enclosure.{lo, hi, IsEnclosure, IsLonger, IsPeak};
 
 use crate::ends::{Enclosure, with_edge};
 use crate::rim::{is_rising_pair, peak};
-use exact_predicates::{Hull, Points, Tri, Tris};
+use exact_predicates::{Hull, Points, Tri, Tris, next_on_hull};
 
 /// The two ends between which the length of a triangulation lies, in millionths of the unit. Its
 /// edges are the hull's pairs, and each other side of a triangle that goes from the lesser number to
@@ -19,7 +19,9 @@ pub fn enclosure(points: &Points, hull: &Hull, tris: &Tris) -> Enclosure
     requires within { All (λ t. (t.b < length points.now.points) × (t.c < length points.now.points)) tris.now }
     ensures lo { result.lo ≡ lo points.now.points (edges hull.now tris.now) }
     ensures hi { result.hi ≡ hi points.now.points (edges hull.now tris.now) }
+    ensures ordered { result.lo ≤ result.hi }
     ensures bound { result.hi ≤ 3 * 10 ^ 15 * (length hull.now + 3 * length tris.now) }
+    ensures of_triangulation { IsTriangulation points.now.points hull.now tris.now → result.hi ≤ most_length }
 
     // The length lies between the two ends, at every scale.
     ensures at_least { IsAtLeast points.now.points (edges hull.now tris.now) (pos result.lo) }
@@ -45,8 +47,7 @@ fn around(points: &Points, hull: &[u32]) -> Enclosure
 {
     let mut so_far = Enclosure { lo: 0, hi: 0 };
     for (k, u) in hull.iter().enumerate() {
-        let next = if k + 1 < hull.len() { k + 1 } else { 0 };
-        so_far = with_edge(so_far, points, *u, hull[next]);
+        so_far = with_edge(so_far, points, *u, next_on_hull(hull, k));
     }
     so_far
 }
@@ -59,7 +60,7 @@ fn with_sides(so_far: Enclosure, points: &Points, hull: &[u32], top: usize, tri:
     requires ordered { so_far.lo ≤ so_far.hi }
     requires room { so_far.hi ≤ 2 ^ 110 }
     ensures longer { IsLonger points.now.points (filter (is_inner hull.now) (sides tri)) so_far result }
-    ensures bound { result.hi ≤ so_far.hi + 9 * 10 ^ 15 }
+    ensures bound { result.hi ≤ so_far.hi + 3 * 10 ^ 15 * length (filter (is_inner hull.now) (sides tri)) }
 {
     let with_ab = with_side(so_far, points, hull, top, tri.a, tri.b);
     let with_bc = with_side(with_ab, points, hull, top, tri.b, tri.c);
@@ -81,7 +82,7 @@ fn with_side(
     requires ordered { so_far.lo ≤ so_far.hi }
     requires room { so_far.hi ≤ 2 ^ 120 }
     ensures longer { IsLonger points.now.points (filter (is_inner hull.now) ((u, v) ∷ [])) so_far result }
-    ensures bound { result.hi ≤ so_far.hi + 3 * 10 ^ 15 }
+    ensures bound { result.hi ≤ so_far.hi + 3 * 10 ^ 15 * length (filter (is_inner hull.now) ((u, v) ∷ [])) }
 {
     if u < v && !is_rising_pair(hull, top, u, v) {
         with_edge(so_far, points, u, v)
