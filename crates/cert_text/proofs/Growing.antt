@@ -1,14 +1,9 @@
 -- A text that grows piece by piece.
 use Rattle.std.proofs.Common.{◌≡◌, ℕ, List, [], ◌++◌, sym, ap, ◌∙◌, append_assoc}
 use Rattle.std.proofs.lemmas.Grind.{flat_map-append}
-use Rattle.std.proofs.lemmas.List.{append-nil}
 use Rattle.mwt_base.specs.Line.{line}
 use Rattle.cert_text.specs.Texts.{lines_text, Grows, head_lines, point_lines, edge_lines, tail_lines, report_lines, report_text}
 use Rattle.cert_text.specs.declared.report.Report.{Report}
-
--- nothing is added
-pub grows_none : (a : List ℕ) → Grows a a []
-grows_none a = sym (append-nil a)
 
 -- lines behind lines
 pub grows_then : (a b c : List ℕ) (xs ys : List (List ℕ)) → Grows a b xs → Grows b c ys → Grows a c (xs ++ ys)

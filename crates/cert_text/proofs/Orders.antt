@@ -1,7 +1,6 @@
 -- A list that ascends from each item to the next ascends between any two, and the other way round.
 use Rattle.std.proofs.Common.{ℕ, zero, suc, ◌+◌, ◌<◌, List, [], ◌∷◌, length, get_or, All, AllPairs, Option, Some, None, arith}
 use Rattle.std.specs.Prelude.{⊤}
-use Rattle.std.specs.List.{AllByRecursion}
 use Rattle.std.proofs.lemmas.List.Kept.{AllPairs-cons}
 
 -- each is R behind the one before it, and the first behind the last one, if there is one
@@ -32,7 +31,3 @@ pub IsChain-pairs : {X : Type 0} (R : X → X → Type 0) (xs : List X) → AllP
 IsChain-pairs R [] pairs = tt
 IsChain-pairs R (x ∷ []) pairs = tt
 IsChain-pairs R (x ∷ y ∷ ys) pairs = (pairs 0 1 x (omega arith) (omega arith), IsChain-pairs R (y ∷ ys) (tail_pairs R x (y ∷ ys) pairs))
-
-pub AllByRecursion-all : {X : Type 0} (P : X → Type 0) (xs : List X) → All P xs → AllByRecursion P xs
-AllByRecursion-all P [] all = tt
-AllByRecursion-all P (x ∷ xs) all = (all 0 x (omega arith), AllByRecursion-all P xs (λ k d inside. all (suc k) d (omega arith)))

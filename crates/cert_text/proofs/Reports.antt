@@ -3,10 +3,11 @@ use Rattle.std.proofs.Common.{◌≡◌, ℕ, ◌^◌, Bool, true, false, cond, 
 use Rattle.std.specs.Prelude.{IfOk}
 use Rattle.std.proofs.lemmas.Bool.{eqb-true}
 use Rattle.std.proofs.lemmas.List.{append-nil, nil_from_length}
-use Rattle.std.proofs.lemmas.List.Elements.{All-from_recursion}
+use Rattle.std.proofs.lemmas.List.Elements.{All-from_recursion, recursion_from_All}
 use Rattle.mwt_base.specs.Limits.{most_edges, most_tiles, most_unit}
 use Rattle.exact_predicates.specs.Candidates.{EdgePrecedes}
 use Rattle.exact_predicates.specs.Plane.{Precedes}
+use Rattle.exact_predicates.proofs.ListOrder.{EdgePrecedes-trans}
 use Rattle.exact_predicates.proofs.Order.{Precedes-trans}
 use Rattle.cert_text.specs.declared.limits.Limits.{Limits}
 use Rattle.cert_text.specs.declared.parts.EdgePart.{EdgePart}
@@ -23,8 +24,8 @@ use Rattle.cert_text.specs.Whole.{head_at, points_at, edges_at, tail_at, report_
 use Rattle.cert_text.specs.Within.{IsWithin, IsPointRow, IsHullRow, IsEdgeRow, IsTriRow, IsLiveRow, LivePrecedes, TriFollows}
 use Rattle.cert_text.proofs.Ends.{head_of, tail_of, IsHead, IsTail, head_takes, head_found, tail_takes, tail_found}
 use Rattle.cert_text.proofs.ListParts.{IsPointPart, IsEdgePart, points_of, edges_of, points_few, at_most, from_most, from_below, points_take, points_found, edges_take, edges_found}
-use Rattle.cert_text.proofs.Orders.{AllPairs-chain, IsChain-pairs, AllByRecursion-all}
-use Rattle.cert_text.proofs.RowOrders.{EdgePrecedes-trans, LivePrecedes-trans, TriFollows-trans}
+use Rattle.cert_text.proofs.Orders.{AllPairs-chain, IsChain-pairs}
+use Rattle.cert_text.proofs.RowOrders.{LivePrecedes-trans, TriFollows-trans}
 use Rattle.cert_text.proofs.Taking.{Took, took_then, text_then, bind_ok, ok_is, Reaches}
 
 -- a report is within its ranges by its parts
@@ -95,21 +96,21 @@ report_found r is rest =
     let h = head_found head (record { version = is.version; unit = from_most most_unit r.unit is.unit; merged = from_below (2 ^ 32) r.merged is.merged }) behind_head in
     let p = points_found r.version points (record {
       points_count = is.points_count;
-      points = AllByRecursion-all IsPointRow r.points is.points;
+      points = recursion_from_All IsPointRow r.points is.points;
       points_ascend = IsChain-pairs Precedes r.points is.points_ascend;
       hull_count = is.hull_count;
-      hull = AllByRecursion-all (IsHullRow (length r.points)) r.hull is.hull;
+      hull = recursion_from_All (IsHullRow (length r.points)) r.hull is.hull;
       candidates = from_most most_edges r.candidates is.candidates;
     }) h.number behind_points in
     let d = edges_found limits (points_few (length r.points) is.points_count) edges (record {
       live_count = from_most most_edges (length r.live) is.live_count;
-      live = AllByRecursion-all (IsLiveRow r.version (length r.points)) r.live is.live;
+      live = recursion_from_All (IsLiveRow r.version (length r.points)) r.live is.live;
       live_ascend = IsChain-pairs LivePrecedes r.live is.live_ascend;
       skeleton_count = from_most most_edges (length r.skeleton) is.skeleton_count;
-      skeleton = AllByRecursion-all (IsEdgeRow (length r.points)) r.skeleton is.skeleton;
+      skeleton = recursion_from_All (IsEdgeRow (length r.points)) r.skeleton is.skeleton;
       skeleton_ascends = IsChain-pairs EdgePrecedes r.skeleton is.skeleton_ascends;
       tris_count = from_most most_tiles (length r.tris) is.tris_count;
-      tris = AllByRecursion-all (IsTriRow (length r.points)) r.tris is.tris;
+      tris = recursion_from_All (IsTriRow (length r.points)) r.tris is.tris;
       tris_ascend = IsChain-pairs TriFollows r.tris is.tris_ascend;
     }) p.number behind_edges in
     let t = tail_found r.version tail (record { ends = record { lo = is.lo; hi = is.hi }; bound = is.bound; gap = is.gap }) d.number rest in

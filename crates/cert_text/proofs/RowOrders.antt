@@ -9,6 +9,7 @@ use Rattle.exact_predicates.specs.declared.tri.Tri.{Tri}
 use Rattle.exact_predicates.specs.Plane.{Precedes}
 use Rattle.exact_predicates.specs.Candidates.{EdgePrecedes, TriPrecedes}
 use Rattle.exact_predicates.proofs.Equalities.{Tri-equal}
+use Rattle.exact_predicates.proofs.ListOrder.{EdgePrecedes-trans}
 use Rattle.cert_text.specs.Rows.{point_may_follow, hull_may_follow, edge_may_follow, live_may_follow, tri_precedes, tri_may_follow}
 use Rattle.cert_text.specs.Within.{LivePrecedes, TriFollows}
 use Rattle.cert_text.proofs.Taking.{IsFollowed}
@@ -141,13 +142,7 @@ hull_order last [] = tt
 hull_order None (u ∷ us) = (refl, hull_order (Some u) us)
 hull_order (Some v) (u ∷ us) = (refl, hull_order (Some u) us)
 
--- each order is transitive
-pub EdgePrecedes-trans : IsTransitive EdgePrecedes
-EdgePrecedes-trans e f g (inl h) (inl k) = inl (omega arith)
-EdgePrecedes-trans e f g (inl h) (inr k) = let k0 = k.0 in inl (omega arith)
-EdgePrecedes-trans e f g (inr h) (inl k) = let h0 = h.0 in inl (omega arith)
-EdgePrecedes-trans e f g (inr h) (inr k) = let h1 = h.1 in let k1 = k.1 in inr (h.0 ∙ k.0, omega arith)
-
+-- the orders of live lines and of triangles are transitive
 pub LivePrecedes-trans : IsTransitive LivePrecedes
 LivePrecedes-trans l m n h k = EdgePrecedes-trans l.edge m.edge n.edge h k
 
