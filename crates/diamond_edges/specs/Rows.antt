@@ -33,6 +33,6 @@ pub record Adds (ps : List Point) (a : ℕ) (es : List Entry) (lo hi : ℕ) (old
   pub only : (b : ℕ) → Contains new b → Contains old b ⊎ IsNext On ps a b
   pub found : (k : ℕ) (s : Spot) → lo ≤ k → k < hi → HasLeaf es k s → IsNext On ps a s.number → Contains new s.number
 
--- numbers of points in 32 directions, which may be any
+-- numbers of points, which may be any
 abbrev pub AreGuesses : List Point → List ℕ → Type 0
-AreGuesses ps slots = (length slots ≡ 32) × All (λ w. w < length ps) slots
+AreGuesses ps slots = (length slots ≡ 50) × All (λ w. w < length ps) slots

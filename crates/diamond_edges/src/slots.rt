@@ -1,5 +1,5 @@
-// Points that are likely to block edges from a point: the nearest known ones in 32 directions. What
-// stands in the slots is a guess, and no result depends on it.
+// Points that are likely to block edges from a point: the nearest known ones in 32 directions, and some
+// that did block others. What stands in the slots is a guess, and no result depends on it.
 ghost use Rattle.std.specs.Prelude.{ℕ, ◌≡◌, ◌<◌, ◌≤◌, ◌*◌, ◌^◌, IsTrue, length, unsigned_abs};
 ghost use Rattle.exact_predicates.specs.Plane.{IsInRange};
 ghost use Rattle.exact_predicates.specs.declared.point.Point.{Point};
@@ -9,10 +9,58 @@ ghost use Rattle.diamond_edges.specs.Rows.{AreGuesses, IsBlocked};
 use exact_predicates::{Point, Points, blocks, d2};
 use point_grid::{Frame, blocks_left_of_all, blocks_right_of_all};
 
-pub(crate) const SLOTS: usize = 32;
+// Slots for so many directions. Behind them, for each side, stand one for the point that blocked it last and
+// so many for points that blocked it before.
+const DIRECTIONS: usize = 32;
 
-// How many slots to one side are asked.
+const LEARNED: usize = 8;
+
+pub(crate) const SLOTS: usize = DIRECTIONS + 2 * (1 + LEARNED);
+
+// How many slots of directions to one side are asked.
 const ASKED: usize = 4;
+
+// How many slots are asked in all.
+const TRIES: usize = 1 + ASKED + LEARNED;
+
+/// A side of the edges from a point.
+#[derive(Clone, Copy)]
+pub(crate) enum Side {
+    Left,
+    Right,
+}
+
+impl Side {
+    // The slot for the point that blocked this side last.
+    fn last(self) -> usize
+        ensures { result ≤ 41 }
+    {
+        match self {
+            Side::Left => DIRECTIONS,
+            Side::Right => DIRECTIONS + 1 + LEARNED,
+        }
+    }
+
+    // The slot that is asked at the turn `k`, for an edge or a frame in this direction: first the last one
+    // that blocked, then those in nearby directions, then those that blocked before.
+    fn slot(self, direction: usize, k: usize) -> usize
+        requires direction_in { direction < 32 }
+        requires k_in { k < 13 }
+        ensures { result < 50 }
+    {
+        if k == 0 {
+            return self.last();
+        }
+        if k > ASKED {
+            return self.last() + (k - ASKED);
+        }
+        let first = match self {
+            Side::Left => direction,
+            Side::Right => direction + (DIRECTIONS + 1 - ASKED),
+        };
+        (first + k - 1) % DIRECTIONS
+    }
+}
 
 // The direction of a vector, counter-clockwise from 0.
 fn sector(x: i64, y: i64) -> usize
@@ -78,32 +126,59 @@ pub(crate) fn note(points: &Points, a: u32, w: u32, slots: &mut [u32])
     }
 }
 
-/// Whether a point in one of the slots from `from` on blocks the left side of `p` to `q`.
-pub(crate) fn slot_blocks(points: &Points, slots: &[u32], from: usize, p: &Point, q: &Point) -> bool
-    requires slots { AreGuesses points.now.points slots.now }
-    requires from_in { from < 64 }
+/// Keeps the point `w`, which blocked this side of an edge, and that before it.
+pub(crate) fn learn(points: &Points, w: u32, side: Side, slots: &mut [u32])
+    requires w_in { w < length points.now.points }
+    requires slots { AreGuesses points.now.points slots.old }
+    ensures { AreGuesses points.now.points slots.new }
+{
+    let last = slots[side.last()];
+    slots[side.last() + 1 + last as usize % LEARNED] = last;
+    slots[side.last()] = w;
+}
+
+/// Whether a point in one of the slots blocks the left side of `p` to `q`, which is the given side of an edge
+/// in this direction. The point is kept.
+pub(crate) fn slot_blocks(
+    points: &Points,
+    slots: &mut [u32],
+    side: Side,
+    direction: usize,
+    p: &Point,
+    q: &Point,
+) -> bool
+    requires slots { AreGuesses points.now.points slots.old }
+    requires direction_in { direction < 32 }
     requires p_in { IsInRange p.now }
     requires q_in { IsInRange q.now }
-    ensures { IsTrue result → IsBlocked points.now.points p.now q.now }
+    ensures slots { AreGuesses points.now.points slots.new }
+    ensures blocked { IsTrue result → IsBlocked points.now.points p.now q.now }
 {
-    for k in from..from + ASKED {
-        if blocks(p, q, points.at(slots[k % SLOTS])) {
+    for k in 0..TRIES {
+        let w = slots[side.slot(direction, k)];
+        if blocks(p, q, points.at(w)) {
+            slots[side.last()] = w;
             return true;
         }
     }
     false
 }
 
-// Whether a point in one of the slots from `from` on blocks the left side of `p` to each point in the
-// frame.
-fn slot_blocks_left(points: &Points, slots: &[u32], from: usize, p: &Point, frame: &Frame) -> bool
+// Whether a point in one of the slots blocks the left side of `p` to each point in the frame.
+fn slot_blocks_left(
+    points: &Points,
+    slots: &[u32],
+    direction: usize,
+    p: &Point,
+    frame: &Frame,
+) -> bool
     requires slots { AreGuesses points.now.points slots.now }
-    requires from_in { from < 64 }
+    requires direction_in { direction < 32 }
     requires p_in { IsInRange p.now }
     ensures { IsTrue result → (q : Point) → IsInFrame frame.now q → IsBlocked points.now.points p.now q }
 {
-    for k in from..from + ASKED {
-        if blocks_left_of_all(p, points.at(slots[k % SLOTS]), frame) {
+    for k in 0..TRIES {
+        if blocks_left_of_all(p, points.at(slots[Side::Left.slot(direction, k)]), frame) {
             return true;
         }
     }
@@ -111,28 +186,62 @@ fn slot_blocks_left(points: &Points, slots: &[u32], from: usize, p: &Point, fram
 }
 
 // The same of the left side of each point in the frame to `p`.
-fn slot_blocks_right(points: &Points, slots: &[u32], from: usize, p: &Point, frame: &Frame) -> bool
+fn slot_blocks_right(
+    points: &Points,
+    slots: &[u32],
+    direction: usize,
+    p: &Point,
+    frame: &Frame,
+) -> bool
     requires slots { AreGuesses points.now.points slots.now }
-    requires from_in { from < 64 }
+    requires direction_in { direction < 32 }
     requires p_in { IsInRange p.now }
     ensures { IsTrue result → (q : Point) → IsInFrame frame.now q → IsBlocked points.now.points q p.now }
 {
-    for k in from..from + ASKED {
-        if blocks_right_of_all(p, points.at(slots[k % SLOTS]), frame) {
+    for k in 0..TRIES {
+        if blocks_right_of_all(p, points.at(slots[Side::Right.slot(direction, k)]), frame) {
             return true;
         }
     }
     false
 }
 
-/// Whether both sides of each edge from `p` to a point in the frame are surely blocked.
+/// Whether both sides of each edge from `p` to a point in the frame are surely blocked. A frame that is
+/// wider than it is far is not tried.
 pub(crate) fn is_dead(points: &Points, slots: &[u32], p: &Point, frame: &Frame) -> bool
     requires slots { AreGuesses points.now.points slots.now }
     requires p_in { IsInRange p.now }
     ensures { IsTrue result → (q : Point) → IsInFrame frame.now q →
         IsBlocked points.now.points p.now q × IsBlocked points.now.points q p.now }
 {
-    let place = direction_of_frame(p, frame);
-    slot_blocks_left(points, slots, place, p, frame)
-        && slot_blocks_right(points, slots, place + 29, p, frame)
+    if seems_wide(p, frame) {
+        return false;
+    }
+    let direction = direction_of_frame(p, frame);
+    slot_blocks_left(points, slots, direction, p, frame)
+        && slot_blocks_right(points, slots, direction, p, frame)
+}
+
+// Whether a frame is wider or higher than it is far from `p`.
+fn seems_wide(p: &Point, frame: &Frame) -> bool
+    requires p_in { IsInRange p.now }
+{
+    let far = gap(p.x, frame.left, frame.right) + gap(p.y, frame.low, frame.high);
+    far < frame.right - frame.left || far < frame.high - frame.low
+}
+
+/// How far `x` is from the numbers from `low` to `high`.
+pub(crate) fn gap(x: i64, low: i64, high: i64) -> i64
+    requires x_in { unsigned_abs x ≤ 10 ^ 9 }
+    requires low_in { unsigned_abs low ≤ 10 ^ 9 }
+    requires high_in { unsigned_abs high ≤ 10 ^ 9 }
+    ensures { unsigned_abs result ≤ 2 * 10 ^ 9 }
+{
+    if x < low {
+        low - x
+    } else if high < x {
+        x - high
+    } else {
+        0
+    }
 }

@@ -8,7 +8,7 @@ ghost use Rattle.point_grid.specs.Tree.{AreSpotsOf};
 ghost use Rattle.diamond_edges.specs.Rows.{AreGuesses, IsRow, IsNext, Adds};
 
 use crate::link::is_linked;
-use crate::slots::{SLOTS, is_dead, note};
+use crate::slots::{SLOTS, gap, is_dead, note};
 use exact_predicates::{Point, Points};
 use mwt_base::NoMemory;
 use point_grid::{BoxTree, Entry, Frame};
@@ -146,21 +146,5 @@ fn distance(p: &Point, entry: &Entry) -> i64
             + gap(p.y, spot.point.y, spot.point.y),
         Entry::Fork(frame, _) => gap(p.x, frame.left, frame.right)
             + gap(p.y, frame.low, frame.high),
-    }
-}
-
-// How far `x` is from the numbers from `low` to `high`.
-fn gap(x: i64, low: i64, high: i64) -> i64
-    requires x_in { unsigned_abs x ≤ 10 ^ 9 }
-    requires low_in { unsigned_abs low ≤ 10 ^ 9 }
-    requires high_in { unsigned_abs high ≤ 10 ^ 9 }
-    ensures { unsigned_abs result ≤ 2 * 10 ^ 9 }
-{
-    if x < low {
-        low - x
-    } else if high < x {
-        x - high
-    } else {
-        0
     }
 }

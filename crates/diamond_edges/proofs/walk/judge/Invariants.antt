@@ -5,4 +5,4 @@ abbrev pub invariant-loop-k : goal.invariant-loop-k
 invariant-loop-k l = AreGuesses l.points.points l.slots
 
 abbrev pub invariant-loop-k-2 : goal.invariant-loop-k-2
-invariant-loop-k-2 l = Adds l.points.points l.a l.tree l.low l.k l.fn.row.items l.row.items
+invariant-loop-k-2 l = AreGuesses l.points.points l.slots × Adds l.points.points l.a l.tree l.low l.k l.fn.row.items l.row.items
