@@ -25,11 +25,6 @@ hull_number_there n u v net pair =
     let k = net.hull_edges e.0 (hull_edge n.hull e.0 u v e.1 pair) in
     (k.0, (k.1, subst (λ (x : Edge). Joins x u v) (sym (read_member n.edges e.0 _ k)) e.1))
 
-pub hull_order : (n : NetworkParts) (u v : ℕ) → IsNetwork n → IsHullPair n.hull u v → (u < v) ⊎ (v < u)
-hull_order n u v net pair =
-    let apart = (pair_ends n.points n.hull u v net.hull_is pair).2 in
-    ⊎_elim (λ l. inl l) (λ l. inr (omega arith)) (cases_lt u v)
-
 -- a least slack as it is written
 pub least_is : (m : ℤ) → IsSlack m → to_z w64 (of_z w64 m) ≡ m
 least_is m h = let low = h.0 in let high = h.1 in omega (arith, ints, low, high)

@@ -15,8 +15,8 @@ is-live : (live xs ys : List Edge) (i : ℕ) (x : Edge) → All (Contains live) 
 is-live live xs ys i x all same l is =
     All-contains (Contains live) ys x all (subst (λ (zs : List Edge). Contains zs x) same (subst (Contains xs) (sym is) (Contains-get_or xs i x l)))
 
-pub number-e-requires-clause-there : goal.number-e-requires-clause-there
-number-e-requires-clause-there c =
+pub number-e-requires : goal.number-e-requires
+number-e-requires c =
     let n = c.args.net.now in
     let es = c.args.self.now in
     let k = live_edge n es c.edge-item.result (is-live (live_edges n (live_of es)) c.as_slice-edge-items.result.now c.args.skeleton.now c.loop-edge.edge-index c.edge-item.result c.requires.skeleton c.as_slice-edge-items.ensures.is c.loop-edge-test.true c.edge-item.is) in

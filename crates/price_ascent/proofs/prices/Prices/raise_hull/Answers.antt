@@ -4,17 +4,14 @@ use Rattle.price_ascent.specs.Belonging.{IsAnchor}
 use Rattle.price_ascent.specs.Entries.{entry}
 use Rattle.price_ascent.specs.Steps.{AreShares, IsRaisedEntry, IsSlack, hull_raised}
 use Rattle.price_ascent.proofs.Changed.{hull_of}
-use Rattle.price_ascent.proofs.Ends.{hull_number_there, hull_order, least_is}
+use Rattle.price_ascent.proofs.Ends.{hull_number_there, least_is}
 use Rattle.price_ascent.proofs.RaisingHull.{hull_belong}
 use Rattle.price_ascent.proofs.Shares.{shares_fit}
 use Rattle.price_ascent.proofs.SlackBounds.{least_fits}
 use Rattle.price_ascent.proofs.prices.Prices.raise_hull.Goals as goal
 
-pub number-e-requires-clause-there : goal.number-e-requires-clause-there
-number-e-requires-clause-there c = hull_number_there c.args.net.now c.args.u c.args.v c.requires.belong.network c.requires.pair
-
-pub number-e-requires-clause-apart : goal.number-e-requires-clause-apart
-number-e-requires-clause-apart c = hull_order c.args.net.now c.args.u c.args.v c.requires.belong.network c.requires.pair
+pub number-e-requires : goal.number-e-requires
+number-e-requires c = hull_number_there c.args.net.now c.args.u c.args.v c.requires.belong.network c.requires.pair
 
 pub hull_raised-requires-clause-anchor : goal.hull_raised-requires-clause-anchor
 hull_raised-requires-clause-anchor c =
