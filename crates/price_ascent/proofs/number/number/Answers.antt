@@ -1,4 +1,4 @@
-use Rattle.std.proofs.Common.{◌≡◌, ◌↔◌, ℕ, Option, None, Some, refl, subst}
+use Rattle.std.proofs.Common.{◌↔◌, ℕ, Option, None, Some, refl, subst}
 use Rattle.std.specs.Option.{IfSome, IsNone, IsSome}
 use Rattle.std.proofs.lemmas.List.{get_or_default}
 use Rattle.exact_predicates.specs.Candidates.{HasEdge}
