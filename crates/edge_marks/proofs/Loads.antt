@@ -36,10 +36,6 @@ seen_here e (suc b) seen h = Contains-here e seen
 pub killed_seen : (e x : ℕ) (d d' : Known) → d' ≡ looked_view e x d → 0 < bit_in x e → Contains d'.seen e
 killed_seen e x d d' is h = subst (λ (v : Known). Contains v.seen e) (sym is) (seen_here e (bit_in x e) d.seen h)
 
-pub net_kept : (ls : List Asked) (d : Known) → (looked_all ls d).net ≡ d.net
-net_kept [] d = refl
-net_kept (l ∷ ls) d = net_kept ls (looked_view l.edge l.value d)
-
 pub tried_kept : (ls : List Asked) (d : Known) → (looked_all ls d).tried ≡ d.tried
 tried_kept [] d = refl
 tried_kept (l ∷ ls) d = tried_kept ls (looked_view l.edge l.value d)

@@ -35,10 +35,3 @@ blank_word (suc n) (suc e) = blank_word n e
 -- no bit of blank words is set
 pub blank_mark : (n e : ℕ) → mark_of (replicate n zero) e ≡ zero
 blank_mark n e = ap (λ (w : ℕ). bit_at w (e % 64)) (blank_word n (e / 64)) ∙ bit_at-zero (e % 64)
-
--- the bits after that of e is set
-pub bits_more : (bits bits' tried : List ℕ) (e n : ℕ) → ((f : ℕ) → f < n → mark_of bits f ≡ weight (has_number f tried)) → mark_of bits' e ≡ 1 → ((f : ℕ) → f ≢ e → mark_of bits' f ≡ mark_of bits f)
-    → (f : ℕ) → f < n → mark_of bits' f ≡ weight (has_number f (e ∷ tried))
-bits_more bits bits' tried e n old here others f low = dite (ℕ_discrete f e)
-    (λ (z : f ≡ e). ap (mark_of bits') z ∙ (here ∙ ap (λ (b : Bool). weight (cond b true (has_number f tried))) (sym (eq-eqb e f (sym z)))))
-    (λ z. others f z ∙ (old f low ∙ ap (λ (b : Bool). weight (cond b true (has_number f tried))) (sym (ne_eqb e f (λ y. z (sym y))))))

@@ -1,0 +1,4 @@
+mod Deques
+mod Networks
+mod Teams
+mod Ends

@@ -1,0 +1,85 @@
+// What a worker does with a task: it examines the edge, and kills it where it has no support.
+ghost use Rattle.std.specs.Prelude.{◌≡◌, ◌<◌, ◌≤◌, length, Contains};
+ghost use Rattle.lmt_network.specs.Numbers.{IsHullNumber, IsBroken};
+ghost use Rattle.edge_marks.specs.Handles.{Belongs};
+ghost use Rattle.edge_marks.specs.Words.{most_kills};
+ghost use Rattle.steal_workers.specs.Workers.{GoesOn};
+
+use crate::supply::Supply;
+use edge_marks::{Found, Kill, Look, Marks, Seat};
+use lmt_network::Network;
+use mwt_base::{Gate, Place};
+
+// Pushes the sides of the triangle t that are neither e nor hull edges.
+fn push_sides(net: &Network, supply: &mut Supply, e: u32, t: u32)
+    requires edges { supply.old.edges ≡ length net.now.edges }
+    requires inside { t < length net.now.tris }
+    ensures { supply.new ≡ supply.old }
+{
+    let sides = net.sides(t);
+    for k in 0..sides.len() {
+        let f = sides[k];
+        if f != e && !net.is_hull(f) {
+            supply.push(f);
+        }
+    }
+}
+
+// Pushes the other sides of the triangles on the edge, which may have lost their support with it.
+fn push_around(net: &Network, supply: &mut Supply, e: u32)
+    requires edges { supply.old.edges ≡ length net.now.edges }
+    requires inside { e < length net.now.edges }
+    ensures { supply.new ≡ supply.old }
+{
+    for l in net.left(e) {
+        push_sides(net, supply, e, *l);
+    }
+    for r in net.right(e) {
+        push_sides(net, supply, e, *r);
+    }
+}
+
+// Kills the edge. Who is the first to kill it pushes the edges around.
+pub fn kill(marks: &Marks, net: &Network, seat: &mut Seat, supply: &mut Supply, e: u32)
+    requires belongs { Belongs marks.now seat.old × (net.now ≡ marks.now.net) }
+    requires edges { supply.old.edges ≡ length net.now.edges }
+    requires inside { e < length marks.now.net.edges }
+    requires inner { ¬ IsHullNumber marks.now.net e }
+    requires new { ¬ Contains seat.old.known.tried e }
+    requires broken { IsBroken marks.now.net seat.old.known.seen e }
+    ensures on { GoesOn marks.now seat.old seat.new supply.old supply.new }
+    ensures low { (seat.old.known.low < seat.new.known.low) × (seat.new.known.low ≤ most_kills marks.now.net) }
+{
+    match marks.kill(seat, e) {
+        Kill::First => push_around(net, supply, e),
+        Kill::Already => {}
+    }
+}
+
+// Examines the edge, unless it is a hull edge, was tried or is killed, and kills it where it has no support.
+pub fn attend<G: Gate>(
+    marks: &Marks,
+    net: &Network,
+    gate: &G,
+    number: u32,
+    seat: &mut Seat,
+    supply: &mut Supply,
+    e: u32,
+)
+    requires belongs { Belongs marks.now seat.old × (net.now ≡ marks.now.net) }
+    requires edges { supply.old.edges ≡ length net.now.edges }
+    requires inside { e < length marks.now.net.edges }
+    ensures { GoesOn marks.now seat.old seat.new supply.old supply.new }
+{
+    if net.is_hull(e) || seat.tried(e) {
+        return;
+    }
+    if let Look::Killed = marks.look(seat, e) {
+        return;
+    }
+    gate.at(number, Place::Edge);
+    match marks.examine(net, seat, e) {
+        Found::Supported(_, _) => {}
+        Found::Unsupported => kill(marks, net, seat, supply, e),
+    }
+}

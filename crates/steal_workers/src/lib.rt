@@ -1,0 +1,19 @@
+//! Workers that kill the edges without a support, each in a thread of its own. A worker takes tasks from
+//! its own deque, steals from the others where that is empty, and ends once a pass over all edges has found
+//! the marks quiet, or a kill of another worker under way.
+#![tactic(auto)]
+
+mod answer;
+mod dealing;
+mod examining;
+mod running;
+mod settling;
+mod supply;
+mod tasks;
+mod team;
+mod worker;
+
+pub use answer::RunEnd;
+pub use dealing::Dealing;
+pub use settling::{Settled, settle_all};
+pub use worker::WorkerState;
