@@ -1,1 +1,1 @@
-mod Networks
+pub mod Networks

@@ -3,6 +3,7 @@ ghost use Rattle.std.specs.Prelude.{◌≡◌, ◌≤◌, length, IfOk, OnOk, Is
 ghost use Rattle.mwt_base.specs.Limits.{most_edges, most_triangles};
 ghost use Rattle.exact_predicates.specs.Candidates.{AreCandidates, AreTrianglesOver};
 ghost use Rattle.exact_predicates.specs.Hull.{IsHull};
+ghost use Rattle.exact_predicates.specs.PointSet.{IsPointSet};
 ghost use Rattle.dual_checker.specs.Elimination.{HasTooManyEdges, HasTooManyTriangles, IsElimination, IsNetworkOf, IsWithinLimits};
 
 use crate::stop::CheckStop;
@@ -35,6 +36,7 @@ impl Elimination {
         ensures eliminated { IfOk result (λ e. IsElimination points.now.points hull.now diamond e.net e.flags) }
         ensures dense_edges { IsErrOf result CheckStop.DenseEdges → HasTooManyEdges points.now.points diamond }
         ensures dense_triangles { IsErrOf result CheckStop.DenseTriangles → HasTooManyTriangles points.now.points diamond }
+        ensures within { OnOk result (IsWithinLimits points.now.points diamond) }
     {
         let net = network_of(rt, alloc, points, hull, diamond)?;
         let count = net.edges();
@@ -58,6 +60,7 @@ pub fn network_of<R: Threads + Sync>(
     ensures network { IfOk result (λ net. IsNetworkOf points.now.points hull.now diamond net) }
     ensures dense_edges { IsErrOf result CheckStop.DenseEdges → HasTooManyEdges points.now.points diamond }
     ensures dense_triangles { IsErrOf result CheckStop.DenseTriangles → HasTooManyTriangles points.now.points diamond }
+    ensures within { OnOk result (IsPointSet points.now.points → IsWithinLimits points.now.points diamond) }
 {
     let grid = Grid::new(alloc, points)?;
     let edges = edges_of(rt, alloc, points, &grid, hull, diamond)?;
