@@ -15,7 +15,7 @@ use Rattle.flip_finish.specs.Mesh.{HasLeft, triangle_left}
 use Rattle.flip_finish.specs.Places.{IsAt}
 use Rattle.flip_finish.specs.Slotted.{AreSlotsOf}
 use Rattle.flip_finish.proofs.Attaching.{others-attached, side-attached, tris-attached}
-use Rattle.flip_finish.proofs.Faces.{HasSideAt-corners, HasSides-only, side_of_corners, with_sides}
+use Rattle.flip_finish.proofs.Faces.{HasSideAt-corners, HasSides-only, with_sides}
 use Rattle.flip_finish.proofs.Fitting.{renamed, renamed_left}
 use Rattle.flip_finish.proofs.Seeing.{first_apart, third_apart}
 use Rattle.flip_finish.proofs.Slots.{HasLeft-apart, HasLeft-ends, HasLeft-only, Joins-apart, Joins-ends_only, left_down, left_up}

@@ -1,5 +1,5 @@
 -- Halves that are sorted by their edges.
-use Rattle.std.proofs.Common.{◌≡◌, ℕ, false, List, get_or, AllPairs, arith, ap}
+use Rattle.std.proofs.Common.{◌≡◌, false, List, get_or, AllPairs, arith, ap}
 use Rattle.std.specs.Cmp.{IsTotalOrder}
 use Rattle.std.specs.List.Sorted.{IsSortedByKey}
 use Rattle.std.specs.Ordering.{is_lt}

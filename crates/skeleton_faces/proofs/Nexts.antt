@@ -1,6 +1,6 @@
 -- The side before another one, going round their start, is the next one for the other side of that edge.
 use Rattle.std.proofs.Common.{◌≡◌, ◌≢◌, ◌⊎◌, ℕ, ◌+◌, ◌*◌, ◌<◌, ◌≤◌, true, false, pos, ◌<ℤ◌, List, length, slice_index, AllPairs, sym, ap, ◌∙◌, subst, inl, ⊎_elim, arith}
-use Rattle.std.proofs.lemmas.Bool.{false≢true, cases_eq, cases_lt}
+use Rattle.std.proofs.lemmas.Bool.{false≢true, cases_lt}
 use Rattle.std.proofs.lemmas.Int.{ints}
 use Rattle.std.proofs.lemmas.List.{get_or_default}
 use Rattle.exact_predicates.specs.declared.edge.Edge.{Edge}
@@ -11,7 +11,7 @@ use Rattle.exact_predicates.specs.PointSet.{IsPointSet, point_at}
 use Rattle.exact_predicates.proofs.Equalities.{HasEdge-comm}
 use Rattle.exact_predicates.proofs.Numbers.{IsOrdered-points}
 use Rattle.exact_predicates.proofs.Orientation.{orient_swapped_last}
-use Rattle.skeleton_faces.specs.Faces.{AreClear, AreClockwise, IsNextSide}
+use Rattle.skeleton_faces.specs.Faces.{AreClear, IsNextSide}
 use Rattle.skeleton_faces.specs.Marks.{nth_edge}
 use Rattle.skeleton_faces.specs.Sides.{is_backward, side_start, side_end, twin}
 use Rattle.skeleton_faces.specs.Turning.{AreLinked, AreNexts, AreTurning, ComesAfter, IsBefore, StartsRise, TurnsTo}

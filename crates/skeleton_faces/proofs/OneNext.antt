@@ -4,8 +4,6 @@ use Rattle.std.proofs.lemmas.Bool.{cases_eq}
 use Rattle.std.proofs.lemmas.Int.{ints}
 use Rattle.exact_predicates.specs.declared.edge.Edge.{Edge}
 use Rattle.exact_predicates.specs.declared.point.Point.{Point}
-use Rattle.exact_predicates.specs.Candidates.{HasEdge}
-use Rattle.exact_predicates.specs.PointSet.{point_at}
 use Rattle.exact_predicates.proofs.Equalities.{HasEdge-comm}
 use Rattle.exact_predicates.proofs.Orientation.{orient_swapped_last}
 use Rattle.skeleton_faces.specs.Faces.{AreClockwise, IsNextSide, IsRight}

@@ -1,5 +1,5 @@
 -- Ways from side to side, and rounds.
-use Rattle.std.proofs.Common.{◌≡◌, ℕ, zero, suc, ◌+◌, ◌<◌, ◌≤◌, Bool, true, false, List, [], ◌∷◌, ◌++◌, length, map, set, get_or, get_or-set_other, get_or-set_same, sym, ap, ◌∙◌, subst, inl, inr, ⊎_elim, arith, add-one, below_more, append_assoc}
+use Rattle.std.proofs.Common.{◌≡◌, ℕ, zero, suc, ◌+◌, ◌<◌, ◌≤◌, Bool, true, false, List, [], ◌∷◌, ◌++◌, length, map, set, get_or, get_or-set_other, get_or-set_same, sym, ap, ◌∙◌, subst, inl, inr, ⊎_elim, arith, below_more, append_assoc}
 use Rattle.std.specs.List.{range_with_len}
 use Rattle.std.proofs.lemmas.Bool.{cases_Bool, cases_eq, cases_lt, false≢true}
 use Rattle.std.proofs.lemmas.List.{append-nil, length-set}

@@ -1,5 +1,5 @@
 -- Both sides of one slot more are given it.
-use Rattle.std.proofs.Common.{◌<◌, sym, refl, arith}
+use Rattle.std.proofs.Common.{◌<◌, sym, arith}
 use Rattle.flip_finish.specs.Face.{face_tris}
 use Rattle.flip_finish.specs.Places.{IsAt}
 use Rattle.flip_finish.proofs.Giving.{Fits-given, given_left, given_next, given_right, given_start, left_in}
