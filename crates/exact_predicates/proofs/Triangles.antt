@@ -47,18 +47,6 @@ rightwards y r =
 leftwards : (y : ℤ) (r : Point) → orient (at (pos 1) y) (at (pos 0) y) r ≡ y -ℤ r.y
 leftwards y r = omega (arith, ints, rightwards y r, orient_swapped (at (pos 0) y) (at (pos 1) y) r)
 
--- a point of the triangle lies within each box that holds the corners: its x is at most x
-pub triangle_x_at_most : (a b c r : Point) (x : ℤ) → pos 0 <ℤ orient a b c → IsInClosedTriangle a b c r → a.x ≤ℤ x → b.x ≤ℤ x → c.x ≤ℤ x → r.x ≤ℤ x
-triangle_x_at_most a b c r x area i ha hb hc =
-    let h = triangle_left_of a b c r (at x (pos 0)) (at x (pos 1)) area i (rw (upwards x a) (omega (arith, ints))) (rw (upwards x b) (omega (arith, ints))) (rw (upwards x c) (omega (arith, ints))) in
-    omega (arith, ints, upwards x r)
-
--- at least x
-pub triangle_x_at_least : (a b c r : Point) (x : ℤ) → pos 0 <ℤ orient a b c → IsInClosedTriangle a b c r → x ≤ℤ a.x → x ≤ℤ b.x → x ≤ℤ c.x → x ≤ℤ r.x
-triangle_x_at_least a b c r x area i ha hb hc =
-    let h = triangle_left_of a b c r (at x (pos 1)) (at x (pos 0)) area i (rw (downwards x a) (omega (arith, ints))) (rw (downwards x b) (omega (arith, ints))) (rw (downwards x c) (omega (arith, ints))) in
-    omega (arith, ints, downwards x r)
-
 -- at least y
 pub triangle_y_at_least : (a b c r : Point) (y : ℤ) → pos 0 <ℤ orient a b c → IsInClosedTriangle a b c r → y ≤ℤ a.y → y ≤ℤ b.y → y ≤ℤ c.y → y ≤ℤ r.y
 triangle_y_at_least a b c r y area i ha hb hc =

@@ -7,9 +7,6 @@ use Rattle.exact_predicates.proofs.IntSigns.{mul-nonneg}
 use Rattle.exact_predicates.proofs.Ring.{var, num, less, times, ring}
 use mir.Syntax.{w64, w128}
 
-pub fits_sum : (x y : ℤ) → unsigned_abs x ≤ 8 * 10 ^ 19 → unsigned_abs y ≤ 8 * 10 ^ 19 → FitsSigned w128 (to_z w128 (of_z w128 x) +ℤ to_z w128 (of_z w128 y))
-fits_sum x y h k = omega (arith, ints)
-
 pub kept_sum : (x y : ℤ) → unsigned_abs x ≤ 8 * 10 ^ 19 → unsigned_abs y ≤ 8 * 10 ^ 19 → to_z w128 (of_z w128 (to_z w128 (of_z w128 x) +ℤ to_z w128 (of_z w128 y))) ≡ x +ℤ y
 kept_sum x y h k = omega (arith, ints)
 

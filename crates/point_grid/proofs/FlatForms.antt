@@ -40,9 +40,6 @@ pub below_zero : (m u v x y a b n least : ℤ) → least ≤ℤ ((((m *ℤ x) +�
 below_zero m u v x y a b n least l h = under _ _ _ _ least (spread m u v x y a b) l h
 
 -- the conditions, one by one, as the tests make them
-pub flat_near : (s c : ℤ) → (pos 5 *ℤ s) <ℤ (pos 4 *ℤ c) → (pos 5 *ℤ s) <ℤ ((pos 4 *ℤ c) +ℤ (pos 4 *ℤ pos 0))
-flat_near s c h = omega (arith, ints)
-
 pub flat_far : (s c n : ℤ) → (pos 5 *ℤ s) <ℤ (pos 4 *ℤ (n -ℤ c)) → (pos 5 *ℤ s) <ℤ ((negsuc 3 *ℤ c) +ℤ (pos 4 *ℤ n))
 flat_far s c n h = omega (arith, ints)
 

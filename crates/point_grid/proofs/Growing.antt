@@ -47,12 +47,6 @@ last_fork old e k f start past h =
     let same : length old ≡ k = omega (arith, length-append old (e ∷ [])) in
     (same, sym (get_or_push old e (Fork f start) k same) ∙ h.1)
 
-pub AreFramed-none : AreFramed []
-AreFramed-none = record {
-  starts = λ k f start h. absurd (let l = h.0 in omega arith);
-  framed = λ k f start i s h a b g. absurd (let l = h.0 in omega arith);
-}
-
 -- a spot more
 pub AreFramed-leaf : (old : List Entry) (s : Spot) → AreFramed old → AreFramed (old ++ Leaf s ∷ [])
 AreFramed-leaf old s h = record {
@@ -91,15 +85,6 @@ AreFramed-fork old f start h low inside = record {
   where
     before : (k : ℕ) (g : Frame) (from : ℕ) → k < length old → HasFork (old ++ Fork f start ∷ []) k g from → HasFork old k g from
     before k g from l fork = fork_back old _ (Keeps-push old _) k g from l fork
-
-pub Grows-none : (P : Spot → Type 0) (es : List Entry) → AreFramed es → ((s : Spot) → ¬ P s) → Grows es es P
-Grows-none P es h none = record {
-  longer = omega arith;
-  kept = λ k e l. refl;
-  framed = h;
-  each = λ k s l leaf. absurd (let m = leaf.0 in omega arith);
-  all = λ s p. absurd (none s p);
-}
 
 pub Grows-leaf : (es : List Entry) (s : Spot) → AreFramed es → Grows es (es ++ Leaf s ∷ []) (λ t. s ≡ t)
 Grows-leaf es s h =

@@ -180,13 +180,3 @@ module _ (ps : List Point) (a : ℕ) (numbers : List ℕ) (old new : List Sight)
         each = All-map (λ b. (a < b) × (b < length ps)) (λ (s : Sight). s.number) new (All-weaker (IsLaterSight ps a) (λ s. (a < s.number) × (s.number < length ps)) (λ s k. (k.0, k.1)) new all_new);
         sorted = λ i j d l j_in. follows sorted i j d l (omega (arith, length-map new (λ (s : Sight). s.number)));
       })
-
--- one sight more
-pub IsSight-push : (ps : List Point) (a : ℕ) (numbers : List ℕ) (old : List Sight) (s : Sight) → ((k : ℕ) (d : Sight) → k < length old → IsSight ps a (slice_index numbers k) (slice_index_or old k d)) → IsSight ps a (slice_index numbers (length old)) s
-    → (k : ℕ) (d : Sight) → k < length old + 1 → IsSight ps a (slice_index numbers k) (slice_index_or (old ++ s ∷ []) k d)
-IsSight-push ps a numbers old s each h k d l =
-    ⊎_elim
-    (λ m. subst (IsSight ps a (slice_index numbers k)) (sym (get_or_append_left old (s ∷ []) d k m)) (each k d m))
-    (λ m. let e : length old ≡ k = omega arith in
-    subst (IsSight ps a (slice_index numbers k)) (sym (get_or_push old s d k e)) (subst (λ (x : ℕ). IsSight ps a (slice_index numbers x) s) e h))
-    (cases_lt k (length old))
