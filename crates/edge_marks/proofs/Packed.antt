@@ -1,10 +1,9 @@
 -- Bits, 64 to a word.
-use Rattle.std.proofs.Common.{◌≡◌, ◌≢◌, ℕ, zero, suc, ◌/◌, ◌%◌, ◌^◌, ◌<◌, max, Bool, true, false, cond, eq-eqb, ne_eqb, List, ◌∷◌, length, replicate, get_or, set, sym, refl, ap, ◌∙◌, arith, bit_or, get_or-set_other, get_or-set_same}
+use Rattle.std.proofs.Common.{◌≡◌, ◌≢◌, ℕ, zero, suc, ◌/◌, ◌%◌, ◌^◌, ◌<◌, max, Bool, true, false, List, length, replicate, get_or, set, sym, refl, ap, ◌∙◌, arith, bit_or, get_or-set_other, get_or-set_same}
 use mathlib.Core.Logic.{dite}
 use native.Mathlib.Decide.{ℕ_discrete}
 use Rattle.std.specs.Int.{bit_at}
 use Rattle.std.proofs.lemmas.Nat.Bits.{bit_at_or, bit_at-pow_same, bit_at-pow_other, bit_at-lt, bit_at-zero}
-use Rattle.edge_marks.specs.Handles.{has_number}
 use Rattle.edge_marks.specs.Rule.{weight}
 use Rattle.edge_marks.specs.Words.{mark_of}
 

@@ -1,5 +1,5 @@
 -- What a seat still knows after its steps.
-use Rattle.std.proofs.Common.{◌≡◌, ℕ, zero, suc, ◌/◌, ◌≤◌, Bool, true, ◌||◌, List, [], ◌∷◌, ◌++◌, Contains, sym, refl, ap, ◌∙◌, subst, arith}
+use Rattle.std.proofs.Common.{◌≡◌, ℕ, ◌/◌, ◌≤◌, Bool, ◌||◌, List, [], ◌∷◌, ◌++◌, sym, refl, ap, ◌∙◌, subst, arith}
 use Rattle.std.proofs.lemmas.List.{append-nil, append_assoc}
 use Rattle.lmt_network.specs.Network.{NetworkParts}
 use Rattle.lmt_network.proofs.Picked.{Contains-later}

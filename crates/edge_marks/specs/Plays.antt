@@ -6,7 +6,7 @@
 --   a split, which makes a new seat (`left_view`, `right_view`).
 -- Each step is written behind the seat's steps, with its word and the value found there. The one load with which a new seat
 -- takes its note (`took_note`) is not, and of a split there is no value.
-use Rattle.std.specs.Prelude.{◌≡◌, ℕ, zero, suc, ◌+◌, ◌*◌, ◌/◌, ◌-◌, ◌<◌, ◌≤◌, Bool, true, false, eqb, cond, ◌||◌, List, [], ◌∷◌, ◌++◌, length, Contains}
+use Rattle.std.specs.Prelude.{◌≡◌, ℕ, zero, suc, ◌+◌, ◌*◌, ◌/◌, ◌-◌, ◌<◌, ◌≤◌, Bool, true, false, eqb, cond, ◌||◌, List, [], ◌∷◌, ◌++◌, Contains}
 use Rattle.atomic_table.specs.Table.{Me, Step}
 use Rattle.lmt_network.specs.Numbers.{AreLive, IsDead}
 use Rattle.edge_marks.specs.declared.view.Made.{Made}

@@ -1,5 +1,5 @@
 -- What a call tells of its seat: what the seat still knows, and what `examine` and `settle` have found, by the loads of the call.
-use Rattle.std.specs.Prelude.{◌≡◌, ◌≢◌, ◌⊎◌, ℕ, ◌+◌, ◌/◌, ◌<◌, ◌≤◌, true, List, [], ◌∷◌, ◌++◌, length, map, Any, Contains}
+use Rattle.std.specs.Prelude.{◌≡◌, ◌≢◌, ◌⊎◌, ℕ, ◌/◌, ◌<◌, ◌≤◌, true, List, [], ◌∷◌, ◌++◌, length, map, Any, Contains}
 use Rattle.lmt_network.specs.Network.{NetworkParts}
 use Rattle.lmt_network.specs.Numbers.{IsHullNumber, IsMinimalPair, IsOnLeft, IsOnRight, IsSideOf, IsOtherSide, IsBroken}
 use Rattle.edge_marks.specs.declared.answer.Found.{Found}

@@ -1,4 +1,4 @@
-use Rattle.std.proofs.Common.{◌≡◌, ℕ, ◌+◌, ◌-◌, [], ◌∷◌, ◌++◌, None, length, length-append, refl, sym, ap, ◌∙◌, subst, arith}
+use Rattle.std.proofs.Common.{◌≡◌, ◌-◌, [], ◌∷◌, length, length-append, refl, sym, ap, ◌∙◌, subst, arith}
 use Rattle.edge_marks.specs.declared.view.Known.{Known}
 use Rattle.edge_marks.proofs.Remembering.{remembers_on}
 use Rattle.steal_workers.specs.Workers.{IsRecruit, AreTeam}
