@@ -2,18 +2,31 @@
 use Rattle.std.proofs.Common.{subst, ◌≡◌, ℕ, ◌<◌, ◌≤◌, List, [], ◌++◌, length, refl, sym, arith, length-append}
 use Rattle.std.specs.Prelude.{None, Some}
 use Rattle.std.specs.declared.option.Option.{Option}
-use Rattle.mwt_base.specs.declared.status.Status.{Status}
+use Rattle.mwt_base.specs.Limits.{most_bytes}
 use Rattle.mwt_base.specs.Told.{IsTold, ReadToEnd, TookMore}
+use Rattle.mwt_base.specs.declared.status.Status.{Status}
 use Rattle.mwt_base.specs.declared.status.Status.TheVariants.{Done}
+use Rattle.dual_checker.specs.Elimination.{IsWithinLimits}
 use Rattle.tsplib_points.specs.declared.file.File.{File}
-use Rattle.tsplib_points.specs.Files.{IsFileOf}
-use Rattle.tsplib_points.specs.Refusals.{refusal}
-use Rattle.mwt_tool.specs.Elimination.{IsWithinLimits}
 use Rattle.mwt_tool.specs.declared.refusal.Refusal.TheVariants.{Usage, TooLong}
-use Rattle.mwt_tool.specs.declared.TheConstants.{INPUT_LIMIT}
-use Rattle.mwt_tool.specs.Intends.{Intends, Refuses, ReportsOf, Solves, usage, too_long, solve, refused, accepted, dense_edges, dense_triangles, solved}
+use Rattle.mwt_tool.specs.declared.words.Mode.{Mode}
+use Rattle.mwt_tool.specs.declared.words.Mode.TheVariants.{Solve}
+use Rattle.mwt_tool.specs.Intends.{Intends, ReadsInput, usage, too_long, answered}
+use Rattle.mwt_tool.specs.Modes.{Accepts, Answers, AskFor, Reads}
+use Rattle.mwt_tool.specs.Refusal.{Refuses}
 use Rattle.mwt_tool.specs.Said.{Means, IsAcceptedInput}
-use Rattle.mwt_tool.specs.Words.{Accepts}
+use Rattle.mwt_tool.specs.Solves.{IsSolvable, ReportsOf, Solves, default_settings, refused, accepted, dense_edges, dense_triangles, solved}
+
+-- every mode reads the source
+reads : (mode : Mode) → Reads mode
+reads Solve = tt
+
+pub asked-reads : (words : List (List ℕ)) (mode : Mode) → AskFor mode words → ReadsInput words
+asked-reads words mode asked = record { mode = mode; asked = asked; reads = reads mode }
+
+-- words ask for one mode
+one_mode : (words : List (List ℕ)) (m n : Mode) → AskFor m words → AskFor n words → m ≡ n
+one_mode words Solve Solve a b = refl
 
 -- an input that fits what the source tells
 abbrev told_input : Option (List ℕ) → List ℕ
@@ -25,56 +38,63 @@ told_is None = tt
 told_is (Some xs) = refl
 
 pub Means-usage : (words : List (List ℕ)) (had : Option (List ℕ)) (status : Status) (text : List ℕ)
-    → (Accepts words → ⊥) → Refuses Usage status text → Means words had status text
-Means-usage words had status text not_accepted says = record {
+    → ((mode : Mode) → ¬ AskFor mode words) → Refuses Usage status text → Means words had status text
+Means-usage words had status text not_asked says = record {
   input = told_input had;
   told = told_is had;
-  intended = usage not_accepted says;
+  intended = usage not_asked says;
 }
 
-pub Means-too_long : (words : List (List ℕ)) (had after : Option (List ℕ)) (status : Status) (text : List ℕ)
-    → Accepts words → TookMore INPUT_LIMIT had after → Refuses TooLong status text → Means words had status text
-Means-too_long words None after status text takes more says = record {
+pub Means-too_long : (words : List (List ℕ)) (had after : Option (List ℕ)) (mode : Mode) (status : Status) (text : List ℕ)
+    → AskFor mode words → TookMore most_bytes had after → Refuses TooLong status text → Means words had status text
+Means-too_long words None after mode status text asked more says = record {
   input = more.bytes;
   told = tt;
-  intended = too_long takes more.more says;
+  intended = too_long (asked-reads words mode asked) more.more says;
 }
-Means-too_long words (Some xs) None status text takes more says = absurd more.taken
-Means-too_long words (Some xs) (Some ys) status text takes more says =
+Means-too_long words (Some xs) None mode status text asked more says = absurd more.taken
+Means-too_long words (Some xs) (Some ys) mode status text asked more says =
     let e : xs ≡ more.bytes ++ ys = more.taken in
-    let far : INPUT_LIMIT < length more.bytes = more.more in
-    record { input = more.bytes ++ ys; told = e; intended = too_long takes (omega (arith, length-append more.bytes ys)) says }
+    let far : most_bytes < length more.bytes = more.more in
+    record {
+      input = more.bytes ++ ys;
+      told = e;
+      intended = too_long (asked-reads words mode asked) (omega (arith, length-append more.bytes ys)) says;
+    }
 
-pub Means-solve : (words : List (List ℕ)) (had after : Option (List ℕ)) (bytes : List ℕ) (status : Status) (text : List ℕ)
-    → Accepts words → ReadToEnd had after bytes → length bytes ≤ INPUT_LIMIT → Solves bytes status text → Means words had status text
-Means-solve words None after bytes status text takes all within solves = record {
+pub Means-answered : (words : List (List ℕ)) (had after : Option (List ℕ)) (bytes : List ℕ) (mode : Mode) (status : Status) (text : List ℕ)
+    → AskFor mode words → ReadToEnd had after bytes → length bytes ≤ most_bytes → Answers mode bytes status text → Means words had status text
+Means-answered words None after bytes mode status text asked all within answers = record {
   input = bytes;
   told = tt;
-  intended = solve takes within solves;
+  intended = answered mode asked (λ _. within) answers;
 }
-Means-solve words (Some xs) after bytes status text takes all within solves = record {
+Means-answered words (Some xs) after bytes mode status text asked all within answers = record {
   input = bytes;
   told = sym all.0;
-  intended = solve takes within solves;
+  intended = answered mode asked (λ _. within) answers;
 }
 
 -- an accepted file whose points are within the limits is answered with Done
-ReportsOf-done : (file : File) (status : Status) (text : List ℕ) → IsWithinLimits file.points.points → ReportsOf file status text → status ≡ Done
+ReportsOf-done : (file : File) (status : Status) (text : List ℕ) → IsWithinLimits file.points.points default_settings.diamond → ReportsOf file default_settings status text → status ≡ Done
 ReportsOf-done file status text within (dense_edges many says) = absurd (within.edges many)
 ReportsOf-done file status text within (dense_triangles many says) = absurd (within.triangles many)
-ReportsOf-done file status text within (solved report same is says) = says.0
+ReportsOf-done file status text within (solved report same is done says) = done
 
-Solves-done : (input : List ℕ) (status : Status) (text : List ℕ) → refusal input ≡ None
-    → ((file : File) → IsFileOf input file → IsWithinLimits file.points.points) → Solves input status text → status ≡ Done
-Solves-done input status text fine within (refused why is says) = cc (fine, is)
-Solves-done input status text fine within (accepted file of reports) = ReportsOf-done file status text (within file of) reports
+Solves-done : (input : List ℕ) (status : Status) (text : List ℕ) → IsSolvable input → Solves input status text → status ≡ Done
+Solves-done input status text fine (refused why is says) = let none = fine.accepted in cc (none, is)
+Solves-done input status text fine (accepted file of reports) = ReportsOf-done file status text (fine.points file of) reports
 
-Intends-done : (words : List (List ℕ)) (input : List ℕ) (status : Status) (text : List ℕ) → Accepts words
-    → length input ≤ INPUT_LIMIT → refusal input ≡ None
-    → ((file : File) → IsFileOf input file → IsWithinLimits file.points.points) → Intends words input status text → status ≡ Done
-Intends-done words input status text takes short fine within (usage away says) = absurd (away takes)
-Intends-done words input status text takes short fine within (too_long same far says) = absurd (omega arith)
-Intends-done words input status text takes short fine within (solve same short' solves) = Solves-done input status text fine within solves
+-- an input that a mode accepts is answered with Done
+Answers-done : (mode : Mode) (input : List ℕ) (status : Status) (text : List ℕ) → Accepts mode input → Answers mode input status text → status ≡ Done
+Answers-done Solve input status text fine answers = Solves-done input status text fine answers
+
+Intends-done : (words : List (List ℕ)) (input : List ℕ) (mode : Mode) (status : Status) (text : List ℕ) → AskFor mode words
+    → length input ≤ most_bytes → Accepts mode input → Intends words input status text → status ≡ Done
+Intends-done words input mode status text asked short fine (usage away says) = absurd (away mode asked)
+Intends-done words input mode status text asked short fine (too_long same far says) = absurd (omega arith)
+Intends-done words input mode status text asked short fine (answered other asked' short' answers) =
+    Answers-done other input status text (subst (λ (m : Mode). Accepts m input) (one_mode words mode other asked asked') fine) answers
 
 pub Means-done : (words : List (List ℕ)) (had : Option (List ℕ)) (status : Status) (text : List ℕ) → IsAcceptedInput words had → Means words had status text → status ≡ Done
 Means-done words None status text has means = absurd (cc has.told)
@@ -82,4 +102,4 @@ Means-done words (Some xs) status text has means =
     let told : xs ≡ means.input = means.told in
     let same : has.input ≡ means.input = let e : Some xs ≡ Some has.input = has.told in cc (e, told) in
     let P : List ℕ → Type 0 = λ s. Intends words s status text in
-    Intends-done words has.input status text has.accepted has.within has.file has.points (subst P (sym same) means.intended)
+    Intends-done words has.input has.mode status text has.asked has.within has.accepted (subst P (sym same) means.intended)

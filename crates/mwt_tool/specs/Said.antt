@@ -1,16 +1,13 @@
 -- What a call read and wrote, beside its answer.
 use Rattle.std.specs.Prelude.{◌≡◌, ℕ, ◌<◌, ◌≤◌, List, [], length, ⊤, Some, None}
 use Rattle.std.specs.declared.option.Option.{Option}
+use Rattle.mwt_base.specs.Limits.{most_bytes}
 use Rattle.mwt_base.specs.Told.{IsTold, Grows, GrowsByPrefix, TookMore}
 use Rattle.mwt_base.specs.declared.status.Status.{Status}
 use Rattle.mwt_base.specs.declared.status.Status.TheVariants.{Done, Broken, Refused, ReadFault, WriteFault, NoMemory}
-use Rattle.tsplib_points.specs.declared.file.File.{File}
-use Rattle.tsplib_points.specs.Files.{IsFileOf}
-use Rattle.tsplib_points.specs.Refusals.{refusal}
-use Rattle.mwt_tool.specs.Elimination.{IsWithinLimits}
-use Rattle.mwt_tool.specs.declared.TheConstants.{INPUT_LIMIT}
+use Rattle.mwt_tool.specs.declared.words.Mode.{Mode}
 use Rattle.mwt_tool.specs.Intends.{Intends}
-use Rattle.mwt_tool.specs.Words.{Accepts}
+use Rattle.mwt_tool.specs.Modes.{Accepts, AskFor}
 
 -- the program came to an answer, and wrote it
 abbrev pub IsAnswer : Status → Type 0
@@ -45,11 +42,11 @@ pub record ReadsUpTo (limit : ℕ) (had after : Option (List ℕ)) : Type 0 wher
   pub whole : (input : List ℕ) → had ≡ Some input → length input ≤ limit → after ≡ Some []
   pub past : (input : List ℕ) → had ≡ Some input → limit < length input → TookMore limit had after
 
--- words that are accepted, and in a source that tells an accepted file, whose points are within the limits
+-- words that ask for a mode, and in a source that tells an input that this mode accepts
 pub record IsAcceptedInput (words : List (List ℕ)) (had : Option (List ℕ)) : Type 0 where
-  pub accepted : Accepts words
+  pub mode : Mode
+  pub asked : AskFor mode words
   pub input : List ℕ
   pub told : had ≡ Some input
-  pub within : length input ≤ INPUT_LIMIT
-  pub file : refusal input ≡ None
-  pub points : (file : File) → IsFileOf input file → IsWithinLimits file.points.points
+  pub within : length input ≤ most_bytes
+  pub accepted : Accepts mode input

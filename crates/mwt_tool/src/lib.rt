@@ -3,20 +3,15 @@
 #![tactic(auto)]
 
 mod answer;
-mod elimination;
+mod price_lines;
+mod priced;
 mod refusal;
-mod report;
 mod shortening;
-mod solve;
+mod solver;
 #[cfg(test)]
 mod tests;
-mod text;
 mod top;
 mod words;
-mod writer;
 
-pub use report::{LiveLine, LiveLines, Report};
+pub use solver::{Settings, solve};
 pub use top::{run, run_in_memory};
-
-/// The most bytes of input that are read.
-pub const INPUT_LIMIT: usize = 67_108_864;

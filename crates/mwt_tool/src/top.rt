@@ -1,11 +1,12 @@
 // The top call.
 ghost use Rattle.std.specs.Prelude.{◌≡◌, ◌≢◌, ◌⊎◌, ◌+◌, ◌≤◌, Some};
 ghost use Rattle.mwt_base.specs.Causes.{Rose};
+ghost use Rattle.mwt_base.specs.Limits.{most_bytes};
 ghost use Rattle.mwt_base.specs.Sure.{collected_bytes};
 ghost use Rattle.mwt_tool.specs.Said.{IsAcceptedInput, IsAnswer, ReadsUpTo, Says, SaysPrefix};
-ghost use Rattle.mwt_tool.specs.Words.{texts, ReadsInput};
+ghost use Rattle.mwt_tool.specs.Words.{texts};
+ghost use Rattle.mwt_tool.specs.Intends.{ReadsInput};
 
-use crate::INPUT_LIMIT;
 use crate::answer::{Stop, decide};
 use mwt_base::{Gate, Sink, Source, Status, SureSink, SureSource, write_whole};
 use std::alloc::Global;
@@ -13,8 +14,8 @@ use std::thread::Threads;
 
 /// Does all that the program does. `words` are those after the program's name.
 ///
-/// What it means to write for its words and its input is stated in `specs/Intends.antt`, a row for
-/// each refusal and each mode. All memory is taken before the first write.
+/// What it means to write for its words and its input is stated in `specs/Intends.antt`, over the
+/// table of modes in `specs/Modes.antt`. All memory is taken before the first write.
 pub fn run<S: Source, K: Sink, G: Gate, R: Threads + Sync>(
     rt: &R,
     alloc: Global,
@@ -38,22 +39,22 @@ pub fn run<S: Source, K: Sink, G: Gate, R: Threads + Sync>(
 
     // What was read.
     ensures read_to_the_end { ReadsInput (texts words.now) → IsAnswer result ⊎ (result ≡ Status.WriteFault) →
-        ReadsUpTo INPUT_LIMIT (S.left source.old) (S.left source.new) }
+        ReadsUpTo most_bytes (S.left source.old) (S.left source.new) }
     ensures read_nothing { ¬ ReadsInput (texts words.now) → source.new ≡ source.old }
-    ensures reads { S.reads source.new ≤ S.reads source.old + (INPUT_LIMIT + 2) }
+    ensures reads { S.reads source.new ≤ S.reads source.old + (most_bytes + 2) }
 
     // Where no fault was counted there is an answer, or want of memory.
     ensures no_other { ¬ Rose (S.faults source.old) (S.faults source.new) →
         ¬ Rose (K.faults sink.old) (K.faults sink.new) →
         IsAnswer result ⊎ (result ≡ Status.NoMemory) }
 
-    // A file that is accepted is answered with a report.
+    // An input that the mode accepts is answered with Done: with `solve`, an accepted file with its report.
     ensures complete { IsAcceptedInput (texts words.now) (S.left source.old) →
         ¬ Rose (S.faults source.old) (S.faults source.new) → ¬ Rose (K.faults sink.old) (K.faults sink.new) →
         (result ≡ Status.Done) ⊎ (result ≡ Status.NoMemory) }
 {
     match decide(rt, alloc, words, source) {
-        Ok(answer) => match write_whole(sink, &answer.text) {
+        Ok(answer) => match write_whole(sink, answer.text.bytes()) {
             Ok(()) => answer.status,
             Err(_) => Status::WriteFault,
         },
@@ -74,7 +75,11 @@ pub fn run_in_memory<G: Gate, R: Threads + Sync>(
 ) -> Status
     ensures said { result ≢ Status.NoMemory →
         Says (texts words.now) (Some source.old.left) result (collected_bytes sink.old) (collected_bytes sink.new) }
+    ensures no_memory { result ≡ Status.NoMemory → sink.new ≡ sink.old }
     ensures no_fault { IsAnswer result ⊎ (result ≡ Status.NoMemory) }
+    ensures read_to_the_end { ReadsInput (texts words.now) → result ≢ Status.NoMemory →
+        ReadsUpTo most_bytes (Some source.old.left) (Some source.new.left) }
+    ensures read_nothing { ¬ ReadsInput (texts words.now) → source.new ≡ source.old }
     ensures complete { IsAcceptedInput (texts words.now) (Some source.old.left) →
         (result ≡ Status.Done) ⊎ (result ≡ Status.NoMemory) }
 {

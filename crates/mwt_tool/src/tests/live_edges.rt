@@ -2,12 +2,12 @@
 // of numbers: the greatest closed list is what is left of all candidates, where edges without a support
 // are taken out until none is left.
 
-use crate::elimination::{Elimination, SolveStop};
 use crate::tests::sets::{SETS, at, in_order, is_inside_box, is_minimal_between, is_pair};
-use crate::tests::{points_of, swept};
-use diamond_edges::{Diamond, candidates};
+use crate::tests::{eliminated, live_ends, points_of, swept};
+use diamond_edges::candidates;
+use dual_checker::{CheckStop, Elimination};
 use empty_triangles::{TriStop, triangles};
-use exact_predicates::Points;
+use exact_predicates::{Diamond, Points};
 use point_grid::Grid;
 use std::alloc::Global;
 use std::test::Fail;
@@ -94,22 +94,11 @@ fn greatest_closed_lists(rt: HostRuntime) -> Result<(), Fail> {
     for places in SETS {
         let points = points_of(alloc, places)?;
         let hull = swept(alloc, &points)?.hull;
-        let elimination = Elimination::of(&rt, alloc, &points, &hull).map_err(|_| Fail::from(
-            "stopped",
-        ))?;
+        let elimination = eliminated(&rt, alloc, &points, &hull)?;
         let count = elimination.net.edges() as usize;
         assert_eq!(rt; count, all_candidates(alloc, &points)?.len(), "{places:?}");
-        assert_eq!(rt; elimination.flags.len(), elimination.net.edges());
-        let lines = elimination
-            .live_lines(alloc)
-            .map_err(|_| Fail::from("no memory"))?;
         let live = greatest_closed(alloc, &points, hull.as_slice())?;
-        assert_eq!(rt; lines.as_slice().len(), live.len(), "{places:?}");
-        for (line, (u, v)) in lines.as_slice().iter().zip(&live) {
-            assert_eq!(rt; (line.edge.a, line.edge.b), (*u, *v), "{places:?}");
-            let on_hull = is_pair(hull.as_slice(), *u, *v) || is_pair(hull.as_slice(), *v, *u);
-            assert_eq!(rt; line.hull, on_hull, "{places:?}");
-        }
+        assert!(rt; live_ends(alloc, &elimination)? == live, "{places:?}");
     }
     Ok(())
 }
@@ -120,9 +109,7 @@ fn network_of_five_points(rt: HostRuntime) -> Result<(), Fail> {
     let alloc = rt.alloc();
     let points = points_of(alloc, &[(0, 0), (2, -2), (7, -3), (10, 0), (5, 1)])?;
     let hull = swept(alloc, &points)?.hull;
-    let Elimination { net, flags } = Elimination::of(&rt, alloc, &points, &hull).map_err(
-        |_| Fail::from("stopped"),
-    )?;
+    let Elimination { net, flags } = eliminated(&rt, alloc, &points, &hull)?;
     assert_eq!(rt; net.edges(), 10);
     assert_eq!(rt; net.tris(), 10);
     assert_eq!(rt; flags.len(), 10);
@@ -180,7 +167,7 @@ fn limits_of_edges_and_triangles(rt: HostRuntime) -> Result<(), Fail> {
     assert_eq!(rt; counts_of(&rt, alloc, 290)?, (41_905, Err(TriStop::Dense)));
     let points = parabola(alloc, 895)?;
     let hull = swept(alloc, &points)?.hull;
-    let stop = Elimination::of(&rt, alloc, &points, &hull).err();
-    assert_eq!(rt; stop, Some(SolveStop::DenseEdges));
+    let stop = Elimination::of(&rt, alloc, &points, &hull, Diamond::Off).err();
+    assert_eq!(rt; stop, Some(CheckStop::DenseEdges));
     Ok(())
 }

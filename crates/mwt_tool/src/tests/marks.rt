@@ -2,8 +2,8 @@
 ghost use Rattle.std.specs.Prelude.{◌≡◌, ◌<◌, length};
 ghost use Rattle.edge_marks.specs.Handles.{Belongs};
 
-use crate::elimination::Elimination;
-use crate::tests::{points_of, swept};
+use crate::tests::{eliminated, points_of, swept};
+use dual_checker::Elimination;
 use edge_marks::{Found, Kill, Look, Marks, Seat, Settle};
 use lmt_network::{Flags, Network};
 use std::alloc::Global;
@@ -36,14 +36,14 @@ const TWENTY: [(i64, i64); 20] = [
     (83, 28),
 ];
 
-fn eliminated<R: Threads + Sync>(
+fn eliminated_at<R: Threads + Sync>(
     rt: &R,
     alloc: Global,
     places: &[(i64, i64)],
 ) -> Result<Elimination, Fail> {
     let points = points_of(alloc, places)?;
     let hull = swept(alloc, &points)?.hull;
-    Elimination::of(rt, alloc, &points, &hull).map_err(|_| Fail::from("stopped"))
+    eliminated(rt, alloc, &points, &hull)
 }
 
 // One pass, and the kill of the edge that it finds.
@@ -154,7 +154,7 @@ impl Two {
 #[test]
 fn marks_settle(rt: HostRuntime) -> Result<(), Fail> {
     let alloc = rt.alloc();
-    let mut two = Two::open(alloc, eliminated(&rt, alloc, &FIVE)?.net)?;
+    let mut two = Two::open(alloc, eliminated_at(&rt, alloc, &FIVE)?.net)?;
     for e in [3, 2, 6] {
         assert_eq!(rt; two.settle(), (Settle::Lone(e), Some(Kill::First)));
     }
@@ -172,7 +172,7 @@ fn marks_settle(rt: HostRuntime) -> Result<(), Fail> {
 #[test]
 fn two_seats_kill_one_edge(rt: HostRuntime) -> Result<(), Fail> {
     let alloc = rt.alloc();
-    let mut two = Two::open(alloc, eliminated(&rt, alloc, &FIVE)?.net)?;
+    let mut two = Two::open(alloc, eliminated_at(&rt, alloc, &FIVE)?.net)?;
     assert_eq!(rt;
         two.examine(3),
         Some((Found::Unsupported, Found::Unsupported))
@@ -192,7 +192,7 @@ fn two_seats_kill_one_edge(rt: HostRuntime) -> Result<(), Fail> {
 #[test]
 fn marks_of_many_edges(rt: HostRuntime) -> Result<(), Fail> {
     let alloc = rt.alloc();
-    let Elimination { net, flags } = eliminated(&rt, alloc, &TWENTY)?;
+    let Elimination { net, flags } = eliminated_at(&rt, alloc, &TWENTY)?;
     assert!(rt; net.edges() > 128);
     let mut two = Two::open(alloc, net)?;
     let mut killed = Vec::new(alloc);

@@ -1,4 +1,4 @@
-use Rattle.mwt_tool.specs.Intends.{accepted, refused}
+use Rattle.mwt_tool.specs.Solves.{accepted, refused}
 use Rattle.mwt_tool.proofs.answer.solve_answer.Goals as goal
 
 pub returns-in_ok-report_answer-in-Ok-clause-solves : goal.returns-in_ok-report_answer-in-Ok-clause-solves

@@ -1,0 +1,23 @@
+-- The table of modes: which words ask for each, whether it reads the source, which inputs it accepts, and what it means to
+-- write for an input. Everything else says what it says for any mode.
+use Rattle.std.specs.Prelude.{◌≡◌, ◌⊎◌, ⊤, List, [], ◌∷◌, ℕ, codes}
+use Rattle.mwt_base.specs.declared.status.Status.{Status}
+use Rattle.mwt_tool.specs.declared.words.Mode.{Mode}
+use Rattle.mwt_tool.specs.declared.words.Mode.TheVariants.{Solve}
+use Rattle.mwt_tool.specs.Solves.{IsSolvable, Solves}
+
+-- the words that ask for the mode
+abbrev pub AskFor : Mode → List (List ℕ) → Type 0
+AskFor Solve words = (words ≡ codes "solve" ∷ []) ⊎ (words ≡ codes "solve" ∷ codes "--diamond" ∷ codes "off" ∷ [])
+
+-- the mode reads the source to its end
+abbrev pub Reads : Mode → Type 0
+Reads Solve = ⊤
+
+-- the mode accepts the input: where no fault comes and memory is there, it is answered with Done
+abbrev pub Accepts : Mode → List ℕ → Type 0
+Accepts Solve input = IsSolvable input
+
+-- the mode means to write this text with this status for the input
+abbrev pub Answers : Mode → List ℕ → Status → List ℕ → Type 0
+Answers Solve input status text = Solves input status text

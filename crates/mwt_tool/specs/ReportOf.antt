@@ -1,0 +1,64 @@
+-- What `solve` answers: the report of a file.
+use Rattle.std.specs.Prelude.{◌≡◌, ℕ, ⊤, Bool, List, length, pos}
+use Rattle.exact_predicates.specs.declared.diamond.Diamond.{Diamond}
+use Rattle.exact_predicates.specs.declared.diamond.Diamond.TheVariants.{Off, On}
+use Rattle.exact_predicates.specs.declared.point.Point.{Point}
+use Rattle.exact_predicates.specs.declared.tri.Tri.{Tri}
+use Rattle.exact_predicates.specs.Length.{IsAtLeast, IsAtMost, IsNotLonger}
+use Rattle.exact_predicates.specs.PointSet.{point_at}
+use Rattle.exact_predicates.specs.Triangulation.{IsTriangulation, edges}
+use Rattle.hull_sweep.specs.Rule.{FollowsRule}
+use Rattle.lmt_network.specs.Bounds.{Exclusion, NoneIsShorter}
+use Rattle.lmt_network.specs.Flags.{live_numbers}
+use Rattle.lmt_network.specs.Network.{NetworkParts}
+use Rattle.lmt_network.specs.PriceTables.{PriceTable, table_prices}
+use Rattle.price_ascent.specs.Ascent.{IsAscent}
+use Rattle.cert_text.specs.declared.report.Report.{Report}
+use Rattle.dual_checker.specs.Elimination.{IsElimination}
+use Rattle.dual_checker.specs.GoodReport.{IsGoodReport, anchored_of, prices_of}
+use Rattle.tsplib_points.specs.declared.file.File.{File}
+use Rattle.mwt_tool.specs.declared.solver.Settings.{Settings}
+
+-- the length of the report's triangulation lies between its two ends, at every scale
+pub record EnclosesLength (r : Report) : Type 0 where
+  pub at_least : IsAtLeast r.points (edges r.hull r.tris) (pos r.lo)
+  pub at_most : IsAtMost r.points (edges r.hull r.tris) r.hi
+
+-- What the bound rests on besides the proofs: nothing with the diamond test off, and with it on the exclusion premise.
+abbrev pub Premise : List Point → List ℕ → Diamond → Type 0
+Premise ps hull Off = ⊤
+Premise ps hull On = Exclusion ps hull On
+
+-- A report that is good, and so certifies: the length of its triangulation lies between the two printed ends, and, under
+-- the premise, no triangulation of the points is shorter than the printed bound.
+pub record IsCertified (r : Report) : Type 0 where
+  pub good : IsGoodReport r
+  pub encloses : EnclosesLength r
+  pub none_is_shorter : Premise r.points r.hull r.diamond → NoneIsShorter r.points r.hull r.bound
+
+-- The prices and anchors are those of the ascent with so many sweeps.
+pub record HasAscentPrices (sweeps : ℕ) (r : Report) : Type 0 where
+  pub net : NetworkParts
+  pub flags : List Bool
+  pub table : PriceTable
+  pub elimination : IsElimination r.points r.hull r.diamond net flags
+  pub ascent : IsAscent net flags (anchored_of r) sweeps table
+  pub prices : prices_of r ≡ table_prices net table (live_numbers flags)
+
+-- The triangulation was found by flips that shorten the one that the sweep's rule chooses: it is not longer than that.
+pub record IsShortenedSweep (r : Report) : Type 0 where
+  pub first : List Tri
+  pub triangulation : IsTriangulation r.points r.hull first
+  pub rule : FollowsRule (point_at r.points) (length r.points) first
+  pub not_longer : IsNotLonger r.points (edges r.hull r.tris) (edges r.hull first)
+
+-- The report of a file with these settings.
+pub record IsReportOf (file : File) (settings : Settings) (r : Report) : Type 0 where
+  pub version : r.version ≡ 2
+  pub diamond : r.diamond ≡ settings.diamond
+  pub unit : r.unit ≡ file.unit
+  pub merged : r.merged ≡ file.merged
+  pub points : r.points ≡ file.points.points
+  pub certified : IsCertified r
+  pub ascent : HasAscentPrices settings.sweeps r
+  pub method : IsShortenedSweep r

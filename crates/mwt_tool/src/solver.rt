@@ -1,0 +1,168 @@
+// The work of the mode `solve`.
+ghost use Rattle.std.specs.Prelude.{◌≡◌, ◌*◌, ◌^◌, ◌<◌, ◌≤◌, pos, ◌≤ℤ◌, All, IfOk, OnOk, IsErrOf, length};
+ghost use Rattle.mwt_base.specs.Limits.{most_anchor, most_edges, most_length, most_unit};
+ghost use Rattle.mwt_tool.specs.Found.{report_of};
+ghost use Rattle.dual_checker.specs.Elimination.{HasTooManyEdges, HasTooManyTriangles, IsWithinLimits};
+ghost use Rattle.exact_predicates.specs.declared.diamond.Diamond.{Diamond};
+ghost use Rattle.exact_predicates.specs.PointSet.{IsPointSet};
+ghost use Rattle.mwt_tool.specs.ReportOf.{IsReportOf};
+ghost use Rattle.lmt_network.specs.Flags.{live_edges, live_numbers};
+ghost use Rattle.lmt_network.specs.Numbers.{AreLive};
+ghost use Rattle.lmt_network.specs.Live.{IsLive};
+ghost use Rattle.exact_predicates.specs.Candidates.{AreCandidates};
+
+use crate::priced::Priced;
+use crate::shortening::shortened;
+use cert_text::{Method, Report};
+use dual_checker::{CheckStop, network_of};
+use exact_predicates::{Diamond, Hull, Point, PointList, Points, Tris};
+use hull_sweep::{Start, sweep};
+use length_enclosure::{Enclosure, enclosure};
+use lmt_network::{Flags, Network, plain_settle};
+use mwt_base::NoMemory;
+use std::alloc::Global;
+use std::thread::Threads;
+use tsplib_points::File;
+
+/// What `solve` is asked for: whether edges are left out by the diamond test, and how many sweeps of
+/// prices are made.
+#[derive(Clone, Copy, Debug, PartialEq, Eq)]
+pub struct Settings {
+    pub diamond: Diamond,
+    pub sweeps: u32,
+}
+
+/// The report of what a file holds: a good one, whose triangulation is found by flips from the sweep's,
+/// and whose prices are those of the ascent. `DenseEdges` and `DenseTriangles` come exactly where the
+/// points have too many candidate edges, or empty triangles between them.
+pub fn solve<R: Threads + Sync>(
+    rt: &R,
+    alloc: Global,
+    file: &File,
+    settings: &Settings,
+) -> Result<Report, CheckStop>
+    requires { file.now.unit ≤ most_unit }
+    ensures report { IfOk result (λ report. IsReportOf file.now settings.now report) }
+    ensures within { OnOk result (IsWithinLimits file.now.points.points settings.now.diamond) }
+    ensures dense_edges { IsErrOf result CheckStop.DenseEdges →
+        HasTooManyEdges file.now.points.points settings.now.diamond }
+    ensures dense_triangles { IsErrOf result CheckStop.DenseTriangles →
+        HasTooManyTriangles file.now.points.points settings.now.diamond }
+{
+    let points = list_of(alloc, &file.points)?;
+    let Start { hull, tris: first } = sweep(alloc, &file.points)?;
+    let net = network_of(rt, alloc, &file.points, &hull, settings.diamond)?;
+    let flags = live_flags(alloc, &net)?;
+    let part = Priced::of(alloc, &file.points, &net, &flags, settings.sweeps)?;
+    let tris = shortened(alloc, &file.points, &hull, &first)?;
+    let ends = enclosure(&file.points, &hull, &tris);
+    let found = Found {
+        points,
+        hull,
+        candidates: net.edges(),
+        part,
+        tris,
+        ends,
+    };
+    Ok(found.report(file, settings))
+}
+
+// What a report is made of.
+#[derive(Drop)]
+pub struct Found {
+    points: PointList,
+    hull: Hull,
+    candidates: u32,
+    part: Priced,
+    tris: Tris,
+    ends: Enclosure,
+}
+
+impl Found {
+    // The report of this file.
+    fn report(self, file: &File, settings: &Settings) -> Report
+        requires not_negative { pos 0 ≤ℤ self.part.bound }
+        requires high { self.part.bound ≤ℤ pos (2 * most_anchor * most_edges) }
+        requires short { self.ends.hi ≤ most_length }
+        ensures report { result ≡ report_of file.now settings.now self }
+        ensures merged { file.now.merged < 2 ^ 32 }
+    {
+        let Found {
+            points,
+            hull,
+            candidates,
+            part,
+            tris,
+            ends,
+        } = self;
+        let Priced {
+            live,
+            skeleton,
+            bound,
+        } = part;
+        let Enclosure { lo, hi } = ends;
+        Report {
+            version: 2,
+            diamond: settings.diamond,
+            unit: file.unit,
+            merged: fitting(file.merged),
+            points,
+            hull,
+            candidates,
+            live,
+            skeleton,
+            tris,
+            method: Method::Flips,
+            lo,
+            hi,
+            bound,
+            gap: hi as i128 - bound,
+        }
+    }
+}
+
+// The points as a list.
+fn list_of(alloc: Global, points: &Points) -> Result<PointList, NoMemory>
+    ensures items { IfOk result (λ list. list ≡ points.now.points) }
+    ensures ids { IfOk result (λ list. All (λ p. p.id < 2 ^ 32) list) }
+    ensures valid { IsPointSet points.now.points }
+{
+    let mut list = Vec::new(alloc);
+    for point in points.as_slice() {
+        list.push(same(point))?;
+    }
+    Ok(PointList::of(list))
+}
+
+// The point itself, whose id fits its type.
+fn same(point: &Point) -> Point
+    ensures is { result ≡ point.now }
+    ensures id { result.id < 2 ^ 32 }
+{
+    Point {
+        id: fitting(point.id),
+        x: point.x,
+        y: point.y,
+    }
+}
+
+// The number itself, which fits its type.
+fn fitting(n: u32) -> u32
+    ensures is { result ≡ n }
+    ensures fits { result < 2 ^ 32 }
+{
+    n
+}
+
+// Which edges are live.
+fn live_flags(alloc: Global, net: &Network) -> Result<Flags, NoMemory>
+    ensures one_each { IfOk result (λ flags. length flags ≡ length net.now.edges) }
+    ensures live { IfOk result (λ flags. AreLive net.now (live_numbers flags)) }
+    ensures live_edges { IfOk result (λ flags. (diamond : Diamond)
+        → AreCandidates net.now.points net.now.hull diamond net.now.edges
+        → IsLive net.now.points net.now.hull diamond (live_edges net.now flags)) }
+{
+    let mut flags = Flags::all(alloc, net.edges())?;
+    plain_settle(net, &mut flags);
+    Ok(flags)
+}
