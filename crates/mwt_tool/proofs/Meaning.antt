@@ -1,5 +1,5 @@
 -- From what was read to what is meant: one lemma a row.
-use Rattle.std.proofs.Common.{subst, ◌≡◌, ℕ, ◌<◌, ◌≤◌, List, [], ◌++◌, length, refl, sym, arith, length-append}
+use Rattle.std.proofs.Common.{subst, ◌≡◌, ◌⊎◌, ℕ, ◌<◌, ◌≤◌, List, [], ◌∷◌, ◌++◌, length, refl, sym, ap, ◌∙◌, get_or, inl, inr, arith, codes, length-append}
 use Rattle.std.specs.Prelude.{None, Some}
 use Rattle.std.specs.declared.option.Option.{Option}
 use Rattle.mwt_base.specs.Limits.{most_bytes}
@@ -9,24 +9,42 @@ use Rattle.mwt_base.specs.declared.status.Status.TheVariants.{Done}
 use Rattle.dual_checker.specs.Elimination.{IsWithinLimits}
 use Rattle.tsplib_points.specs.declared.file.File.{File}
 use Rattle.mwt_tool.specs.declared.refusal.Refusal.TheVariants.{Usage, TooLong}
+use Rattle.exact_predicates.specs.declared.diamond.Diamond.TheVariants.{On, Off}
+use Rattle.mwt_tool.specs.declared.solver.Settings.{Settings}
 use Rattle.mwt_tool.specs.declared.words.Mode.{Mode}
 use Rattle.mwt_tool.specs.declared.words.Mode.TheVariants.{Solve}
 use Rattle.mwt_tool.specs.Intends.{Intends, ReadsInput, usage, too_long, answered}
 use Rattle.mwt_tool.specs.Modes.{Accepts, Answers, AskFor, Reads}
 use Rattle.mwt_tool.specs.Refusal.{Refuses}
 use Rattle.mwt_tool.specs.Said.{Means, IsAcceptedInput}
-use Rattle.mwt_tool.specs.Solves.{IsSolvable, ReportsOf, Solves, default_settings, refused, accepted, dense_edges, dense_triangles, solved}
+use Rattle.mwt_tool.specs.Solves.{IsSolvable, ReportsOf, Solves, refused, accepted, dense_edges, dense_triangles, solved}
 
 -- every mode reads the source
 reads : (mode : Mode) → Reads mode
-reads Solve = tt
+reads (Solve diamond) = tt
 
 pub asked-reads : (words : List (List ℕ)) (mode : Mode) → AskFor mode words → ReadsInput words
 asked-reads words mode asked = record { mode = mode; asked = asked; reads = reads mode }
 
+-- words that ask for the mode with neither value of the test ask for no mode
+pub none_asked : (words : List (List ℕ)) → ¬ AskFor (Solve On) words → ¬ AskFor (Solve Off) words → (mode : Mode) → ¬ AskFor mode words
+none_asked words on off (Solve On) = on
+none_asked words on off (Solve Off) = off
+
+-- words do not ask for both values of the test
+on_and_off : (words : List (List ℕ)) → AskFor (Solve On) words → AskFor (Solve Off) words → ⊥
+on_and_off words (inl alone) off = let sizes : 1 ≡ 3 = ap length (sym alone ∙ off) in omega arith
+on_and_off words (inr on) off =
+    let values : codes "on" ≡ codes "off" = ap (λ ws. get_or ws 2 []) (sym on ∙ off) in
+    let sizes : 2 ≡ 3 = ap length values in
+    omega arith
+
 -- words ask for one mode
 one_mode : (words : List (List ℕ)) (m n : Mode) → AskFor m words → AskFor n words → m ≡ n
-one_mode words Solve Solve a b = refl
+one_mode words (Solve On) (Solve On) a b = refl
+one_mode words (Solve On) (Solve Off) a b = absurd (on_and_off words a b)
+one_mode words (Solve Off) (Solve On) a b = absurd (on_and_off words b a)
+one_mode words (Solve Off) (Solve Off) a b = refl
 
 -- an input that fits what the source tells
 abbrev told_input : Option (List ℕ) → List ℕ
@@ -76,18 +94,19 @@ Means-answered words (Some xs) after bytes mode status text asked all within ans
 }
 
 -- an accepted file whose points are within the limits is answered with Done
-ReportsOf-done : (file : File) (status : Status) (text : List ℕ) → IsWithinLimits file.points.points default_settings.diamond → ReportsOf file default_settings status text → status ≡ Done
-ReportsOf-done file status text within (dense_edges many says) = absurd (within.edges many)
-ReportsOf-done file status text within (dense_triangles many says) = absurd (within.triangles many)
-ReportsOf-done file status text within (solved report same is done says) = done
+ReportsOf-done : (settings : Settings) (file : File) (status : Status) (text : List ℕ) → IsWithinLimits file.points.points settings.diamond
+    → ReportsOf file settings status text → status ≡ Done
+ReportsOf-done settings file status text within (dense_edges many says) = absurd (within.edges many)
+ReportsOf-done settings file status text within (dense_triangles many says) = absurd (within.triangles many)
+ReportsOf-done settings file status text within (solved report same is done says) = done
 
-Solves-done : (input : List ℕ) (status : Status) (text : List ℕ) → IsSolvable input → Solves input status text → status ≡ Done
-Solves-done input status text fine (refused why is says) = let none = fine.accepted in cc (none, is)
-Solves-done input status text fine (accepted file of reports) = ReportsOf-done file status text (fine.points file of) reports
+Solves-done : (settings : Settings) (input : List ℕ) (status : Status) (text : List ℕ) → IsSolvable settings input → Solves settings input status text → status ≡ Done
+Solves-done settings input status text fine (refused why is says) = let none = fine.accepted in cc (none, is)
+Solves-done settings input status text fine (accepted file of reports) = ReportsOf-done settings file status text (fine.points file of) reports
 
 -- an input that a mode accepts is answered with Done
 Answers-done : (mode : Mode) (input : List ℕ) (status : Status) (text : List ℕ) → Accepts mode input → Answers mode input status text → status ≡ Done
-Answers-done Solve input status text fine answers = Solves-done input status text fine answers
+Answers-done (Solve diamond) input status text fine answers = Solves-done _ input status text fine answers
 
 Intends-done : (words : List (List ℕ)) (input : List ℕ) (mode : Mode) (status : Status) (text : List ℕ) → AskFor mode words
     → length input ≤ most_bytes → Accepts mode input → Intends words input status text → status ≡ Done

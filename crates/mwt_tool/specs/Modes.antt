@@ -2,22 +2,24 @@
 -- write for an input. Everything else says what it says for any mode.
 use Rattle.std.specs.Prelude.{◌≡◌, ◌⊎◌, ⊤, List, [], ◌∷◌, ℕ, codes}
 use Rattle.mwt_base.specs.declared.status.Status.{Status}
+use Rattle.exact_predicates.specs.declared.diamond.Diamond.TheVariants.{On, Off}
 use Rattle.mwt_tool.specs.declared.words.Mode.{Mode}
 use Rattle.mwt_tool.specs.declared.words.Mode.TheVariants.{Solve}
-use Rattle.mwt_tool.specs.Solves.{IsSolvable, Solves}
+use Rattle.mwt_tool.specs.Solves.{IsSolvable, Solves, default_settings}
 
--- the words that ask for the mode
+-- the words that ask for the mode: where none says otherwise, the diamond test is on
 abbrev pub AskFor : Mode → List (List ℕ) → Type 0
-AskFor Solve words = (words ≡ codes "solve" ∷ []) ⊎ (words ≡ codes "solve" ∷ codes "--diamond" ∷ codes "off" ∷ [])
+AskFor (Solve On) words = (words ≡ codes "solve" ∷ []) ⊎ (words ≡ codes "solve" ∷ codes "--diamond" ∷ codes "on" ∷ [])
+AskFor (Solve Off) words = words ≡ codes "solve" ∷ codes "--diamond" ∷ codes "off" ∷ []
 
 -- the mode reads the source to its end
 abbrev pub Reads : Mode → Type 0
-Reads Solve = ⊤
+Reads (Solve diamond) = ⊤
 
 -- the mode accepts the input: where no fault comes and memory is there, it is answered with Done
 abbrev pub Accepts : Mode → List ℕ → Type 0
-Accepts Solve input = IsSolvable input
+Accepts (Solve diamond) input = IsSolvable (default_settings diamond) input
 
 -- the mode means to write this text with this status for the input
 abbrev pub Answers : Mode → List ℕ → Status → List ℕ → Type 0
-Answers Solve input status text = Solves input status text
+Answers (Solve diamond) input status text = Solves (default_settings diamond) input status text

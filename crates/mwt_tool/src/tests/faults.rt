@@ -28,7 +28,7 @@ fn faults_of_the_outside(rt: HostRuntime) -> Result<(), Fail> {
     assert_eq!(rt; status, Status::WriteFault);
     assert_eq!(rt;
         sink.bytes(),
-        b"mwt 2\ndiamond of".as_slice(),
+        b"mwt 2\ndiamond on".as_slice(),
         "nothing more is written after it"
     );
     Ok(())

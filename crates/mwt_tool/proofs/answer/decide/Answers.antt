@@ -1,10 +1,10 @@
 use Rattle.std.proofs.Common.{refl}
-use Rattle.mwt_tool.proofs.Meaning.{Means-usage, Means-too_long, Means-answered}
+use Rattle.mwt_tool.proofs.Meaning.{none_asked, Means-usage, Means-too_long, Means-answered}
 use Rattle.mwt_tool.proofs.answer.decide.Goals as goal
 
 pub returns-in_ok-refusal_answer-in-None-clause-means : goal.returns-in_ok-refusal_answer-in-None-clause-means
 returns-in_ok-refusal_answer-in-None-clause-means g c =
-    Means-usage _ _ _ _ (c.in-None.ensures.none refl)
+    Means-usage _ _ _ _ (none_asked _ (c.in-None.ensures.not_on refl) (c.in-None.ensures.not_off refl))
     (c.in_ok-refusal_answer-in-None.ensures.status, c.in_ok-refusal_answer-in-None.ensures.text)
 
 pub returns-in_ok-answer_of-in-Ok-clause-means : goal.returns-in_ok-answer_of-in-Ok-clause-means
