@@ -33,11 +33,11 @@ none_asked words on off (Solve Off) = off
 
 -- words do not ask for both values of the test
 on_and_off : (words : List (List ℕ)) → AskFor (Solve On) words → AskFor (Solve Off) words → ⊥
-on_and_off words (inl alone) off = let sizes : 1 ≡ 3 = ap length (sym alone ∙ off) in omega arith
+on_and_off words (inl alone) off = cc (alone, off)
 on_and_off words (inr on) off =
     let values : codes "on" ≡ codes "off" = ap (λ ws. get_or ws 2 []) (sym on ∙ off) in
-    let sizes : 2 ≡ 3 = ap length values in
-    omega arith
+    let second : ◌≡◌ {A = ℕ} 110 102 = ap (λ (w : List ℕ). get_or w 1 0) values in
+    omega (arith, second)
 
 -- words ask for one mode
 one_mode : (words : List (List ℕ)) (m n : Mode) → AskFor m words → AskFor n words → m ≡ n

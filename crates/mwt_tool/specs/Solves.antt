@@ -15,9 +15,9 @@ use Rattle.mwt_tool.specs.declared.solver.Settings.{Settings}
 use Rattle.mwt_tool.specs.Refusal.{Refuses}
 use Rattle.mwt_tool.specs.ReportOf.{IsReportOf}
 
--- what solve does with this value of the diamond test where no word says otherwise: 16 sweeps
+-- what solve does with this value of the diamond test where no word says otherwise: 4 workers, and 16 sweeps
 abbrev pub default_settings : Diamond → Settings
-default_settings diamond = record { diamond = diamond; sweeps = 16 }
+default_settings diamond = record { workers = 4; diamond = diamond; sweeps = 16 }
 
 -- For what a file holds: that its points have too many candidate edges or empty triangles, or the text of its report.
 pub data ReportsOf (file : File) (settings : Settings) (status : Status) (text : List ℕ) : Type 0 where

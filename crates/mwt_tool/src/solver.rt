@@ -1,6 +1,6 @@
 // The work of the mode `solve`.
 ghost use Rattle.std.specs.Prelude.{◌≡◌, ◌*◌, ◌^◌, ◌<◌, ◌≤◌, pos, ◌≤ℤ◌, All, IfOk, OnOk, IsErrOf, length};
-ghost use Rattle.mwt_base.specs.Limits.{most_anchor, most_edges, most_length, most_unit};
+ghost use Rattle.mwt_base.specs.Limits.{most_anchor, most_edges, most_length, most_unit, most_workers};
 ghost use Rattle.mwt_tool.specs.Found.{report_of};
 ghost use Rattle.dual_checker.specs.Elimination.{HasTooManyEdges, HasTooManyTriangles, IsWithinLimits};
 ghost use Rattle.exact_predicates.specs.declared.diamond.Diamond.{Diamond};
@@ -18,30 +18,36 @@ use dual_checker::{CheckStop, network_of};
 use exact_predicates::{Diamond, Hull, Point, PointList, Points, Tris};
 use hull_sweep::{Start, sweep};
 use length_enclosure::{Enclosure, enclosure};
-use lmt_network::{Flags, Network, plain_settle};
-use mwt_base::NoMemory;
+use lmt_network::{Flags, Network};
+use mwt_base::{Gate, NoMemory};
 use std::alloc::Global;
 use std::thread::Threads;
+use steal_workers::{Dealing, Settled, settle_all};
 use tsplib_points::File;
 
-/// What `solve` is asked for: whether edges are left out by the diamond test, and how many sweeps of
-/// prices are made.
+/// What `solve` is asked for: how many workers discard edges, from 1 to 64; whether edges are left out by
+/// the diamond test; and how many sweeps of prices are made.
 #[derive(Clone, Copy, Debug, PartialEq, Eq)]
 pub struct Settings {
+    pub workers: u32,
     pub diamond: Diamond,
     pub sweeps: u32,
 }
 
 /// The report of what a file holds: a good one, whose triangulation is found by flips from the sweep's,
 /// and whose prices are those of the ascent. `DenseEdges` and `DenseTriangles` come exactly where the
-/// points have too many candidate edges, or empty triangles between them.
-pub fn solve<R: Threads + Sync>(
+/// points have too many candidate edges, or empty triangles between them. No part of the report depends on
+/// the number of workers; `gate` is called by them.
+pub fn solve<R: Threads + Sync, G: Gate>(
     rt: &R,
     alloc: Global,
     file: &File,
     settings: &Settings,
+    gate: &G,
 ) -> Result<Report, CheckStop>
-    requires { file.now.unit ≤ most_unit }
+    requires unit { file.now.unit ≤ most_unit }
+    requires some { 0 < settings.now.workers }
+    requires few { settings.now.workers ≤ most_workers }
     ensures report { IfOk result (λ report. IsReportOf file.now settings.now report) }
     ensures within { OnOk result (IsWithinLimits file.now.points.points settings.now.diamond) }
     ensures dense_edges { IsErrOf result CheckStop.DenseEdges →
@@ -52,7 +58,7 @@ pub fn solve<R: Threads + Sync>(
     let points = list_of(alloc, &file.points)?;
     let Start { hull, tris: first } = sweep(alloc, &file.points)?;
     let net = network_of(rt, alloc, &file.points, &hull, settings.diamond)?;
-    let flags = live_flags(alloc, &net)?;
+    let flags = live_flags(rt, alloc, &net, settings.workers, gate)?;
     let part = Priced::of(alloc, &file.points, &net, &flags, settings.sweeps)?;
     let tris = shortened(alloc, &file.points, &hull, &first)?;
     let ends = enclosure(&file.points, &hull, &tris);
@@ -155,14 +161,21 @@ fn fitting(n: u32) -> u32
 }
 
 // Which edges are live.
-fn live_flags(alloc: Global, net: &Network) -> Result<Flags, NoMemory>
+fn live_flags<R: Threads + Sync, G: Gate>(
+    rt: &R,
+    alloc: Global,
+    net: &Network,
+    workers: u32,
+    gate: &G,
+) -> Result<Flags, NoMemory>
+    requires some { 0 < workers }
+    requires few { workers ≤ most_workers }
     ensures one_each { IfOk result (λ flags. length flags ≡ length net.now.edges) }
     ensures live { IfOk result (λ flags. AreLive net.now (live_numbers flags)) }
     ensures live_edges { IfOk result (λ flags. (diamond : Diamond)
         → AreCandidates net.now.points net.now.hull diamond net.now.edges
         → IsLive net.now.points net.now.hull diamond (live_edges net.now flags)) }
 {
-    let mut flags = Flags::all(alloc, net.edges())?;
-    plain_settle(net, &mut flags);
+    let Settled { flags, .. } = settle_all(rt, alloc, net, workers, Dealing::Stripes, gate)?;
     Ok(flags)
 }

@@ -22,7 +22,7 @@ pub fn run<S: Source, K: Sink, G: Gate, R: Threads + Sync>(
     words: &[String],
     source: &mut S,
     sink: &mut K,
-    _gate: &G,
+    gate: &G,
 ) -> Status
     // With an answer: what the program means to write for these words and this input was written.
     ensures said { IsAnswer result →
@@ -53,7 +53,7 @@ pub fn run<S: Source, K: Sink, G: Gate, R: Threads + Sync>(
         ¬ Rose (S.faults source.old) (S.faults source.new) → ¬ Rose (K.faults sink.old) (K.faults sink.new) →
         (result ≡ Status.Done) ⊎ (result ≡ Status.NoMemory) }
 {
-    match decide(rt, alloc, words, source) {
+    match decide(rt, alloc, words, source, gate) {
         Ok(answer) => match write_whole(sink, answer.text.bytes()) {
             Ok(()) => answer.status,
             Err(_) => Status::WriteFault,

@@ -25,7 +25,7 @@ returns-clause-report g c =
     (report_of_steps file settings c.in_ok-net.net c.in_ok-flags.flags c.in_ok-hull.field-0.tris (report_of file settings found)
     (record {
       version = refl;
-      unit = c.requires;
+      unit = c.requires.unit;
       merged = c.report.ensures.merged;
       points_are = c.in_ok-points.ensures.items;
       ids = c.in_ok-points.ensures.ids;
