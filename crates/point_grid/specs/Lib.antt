@@ -1,10 +1,12 @@
 pub mod Blockers
+pub mod Cells
 pub mod Directions
 pub mod First
 pub mod Flat
 pub mod Frames
 pub mod Listing
 pub mod Numbered
+pub mod Regions
 pub mod Tree
 pub mod Views
 pub mod Windows

@@ -6,8 +6,8 @@ ghost use Rattle.point_grid.specs.Views.{IsInView};
 use crate::forms::{greatest, least, least_norm};
 use crate::frame::{Turn, View};
 
-// A sum of small multiples.
-fn mix(m: i64, x: i64, n: i64, y: i64) -> i64
+/// A sum of small multiples.
+pub(crate) fn mix(m: i64, x: i64, n: i64, y: i64) -> i64
     requires m_in { unsigned_abs m ≤ 5 }
     requires x_in { unsigned_abs x ≤ 2 * 10 ^ 9 }
     requires n_in { unsigned_abs n ≤ 5 }

@@ -1,16 +1,19 @@
 // Frames of points.
-ghost use Rattle.std.specs.Prelude.{◌≡◌, ◌<◌, ◌≤◌, ◌^◌, ◌-ℤ◌, ◌≤ℤ◌, unsigned_abs, length, All};
+ghost use Rattle.std.specs.Prelude.{◌≡◌, ◌⊎◌, ◌<◌, ◌≤◌, ◌^◌, ◌-ℤ◌, ◌≤ℤ◌, unsigned_abs, length, All};
 ghost use Rattle.exact_predicates.specs.Plane.{IsInRange};
-ghost use Rattle.point_grid.specs.Frames.{IsInFrame, IsWithin};
+ghost use Rattle.point_grid.specs.Frames.{IsInFrame, Extends, IsFrameOf};
 
 use crate::frame::{Frame, View};
 use crate::spot::Spot;
-use exact_predicates::Point;
+use exact_predicates::{Point, Points};
 
 // The frame of one point.
 fn frame_of(p: &Point) -> Frame
     requires { IsInRange p.now }
-    ensures { IsInFrame result p.now }
+    ensures left { result.left ≡ p.now.x }
+    ensures right { result.right ≡ p.now.x }
+    ensures low { result.low ≡ p.now.y }
+    ensures high { result.high ≡ p.now.y }
 {
     Frame {
         left: p.x,
@@ -26,6 +29,7 @@ fn lesser(a: i64, b: i64) -> i64
     requires b_in { unsigned_abs b ≤ 10 ^ 9 }
     ensures first { result ≤ℤ a }
     ensures second { result ≤ℤ b }
+    ensures pick { (result ≡ a) ⊎ (result ≡ b) }
     ensures bound { unsigned_abs result ≤ 10 ^ 9 }
 {
     if a < b { a } else { b }
@@ -37,6 +41,7 @@ fn greater(a: i64, b: i64) -> i64
     requires b_in { unsigned_abs b ≤ 10 ^ 9 }
     ensures first { a ≤ℤ result }
     ensures second { b ≤ℤ result }
+    ensures pick { (result ≡ a) ⊎ (result ≡ b) }
     ensures bound { unsigned_abs result ≤ 10 ^ 9 }
 {
     if a < b { b } else { a }
@@ -45,8 +50,7 @@ fn greater(a: i64, b: i64) -> i64
 // The frame of those in `frame` and one point more.
 fn extended(frame: Frame, p: &Point) -> Frame
     requires { IsInRange p.now }
-    ensures wider { IsWithin frame result }
-    ensures has { IsInFrame result p.now }
+    ensures { Extends frame p.now result }
 {
     Frame {
         left: lesser(frame.left, p.x),
@@ -64,6 +68,18 @@ pub(crate) fn frame_around(head: &Spot, others: &[Spot]) -> Frame
     let mut frame = frame_of(&head.point);
     for s in others {
         frame = extended(frame, &s.point);
+    }
+    frame
+}
+
+/// The least frame that has these points.
+pub(crate) fn frame_of_all(points: &Points) -> Frame
+    ensures { IsFrameOf points.now.points (length points.now.points) result }
+{
+    let count = points.len();
+    let mut frame = frame_of(points.at(0));
+    for r in 1..count {
+        frame = extended(frame, points.at(r));
     }
     frame
 }

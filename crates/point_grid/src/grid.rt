@@ -2,22 +2,29 @@
 ghost use Rattle.std.specs.Prelude.{◌≡◌, ◌≢◌, ◌<◌, ◌≤◌, ◌<ℤ◌, pos, length, IfOk};
 ghost use Rattle.exact_predicates.specs.Plane.{orient, IsBetween, IsInClosedTriangle, IsInLeftDiamond};
 ghost use Rattle.exact_predicates.specs.PointSet.{point_at};
+ghost use Rattle.exact_predicates.specs.Root.{IsRootUp};
 ghost use Rattle.exact_predicates.specs.Triangulation.{IsCorner};
+ghost use Rattle.point_grid.specs.Cells.{IsCell, IsCellNumber};
 ghost use Rattle.point_grid.specs.First.{IsFirst};
 ghost use Rattle.point_grid.specs.Tree.{AreSpotsOf};
 ghost use Rattle.point_grid.specs.Windows.{AreAllIn};
 
 use crate::box_tree::BoxTree;
+use crate::cells::Cells;
+use crate::region::Region;
+use crate::search::first_in;
 use crate::window::Window;
-use exact_predicates::{Point, Points, Tri, in_closed_triangle, in_left_diamond, strictly_between};
+use exact_predicates::{Point, Points, Tri};
 use mwt_base::NoMemory;
 use std::alloc::Global;
 use std::marker::Model;
 
-/// The points of a problem, ready for queries. A query is given the same points again.
+/// The points of a problem, ready for queries, in a square array of cells and in a tree. A query is
+/// given the same points again.
 #[derive(Drop)]
 pub struct Grid {
     points: Vec<Point>,
+    cells: Cells,
     tree: BoxTree,
 }
 
@@ -25,23 +32,47 @@ impl Model for Grid {
     ghost use Rattle.std.specs.Prelude.{List};
     ghost use Rattle.exact_predicates.specs.declared.point.Point.{Point};
     ghost use Rattle.exact_predicates.specs.PointSet.{IsPointSet};
+    ghost use Rattle.point_grid.specs.Cells.{AreCells};
     ghost use Rattle.point_grid.specs.Tree.{AreSpotsOf};
 
     ghost Value = { List Point };
 
     ghost view = { λ g. g.points.items };
 
-    ghost invariant = { λ g. IsPointSet g.points.items × AreSpotsOf g.points.items g.tree };
+    ghost invariant = { λ g. IsPointSet g.points.items × AreCells g.points.items g.cells × AreSpotsOf g.points.items g.tree };
 }
 
 impl Grid {
-    /// A grid of these points.
+    /// A grid of these points. For n points it takes time n log n.
     pub fn new(alloc: Global, points: &Points) -> Result<Grid, NoMemory>
         ensures { IfOk result (λ grid. grid ≡ points.now.points) }
     {
         let tree = BoxTree::new(alloc, points)?;
+        let cells = Cells::new(alloc, points)?;
         let points = Vec::from_slice(alloc, points.as_slice())?;
-        Ok(Grid { points, tree })
+        Ok(Grid {
+            points,
+            cells,
+            tree,
+        })
+    }
+
+    /// How many cells are on each side of the square array: the least number whose square is at least
+    /// that of the points.
+    pub fn side(&self) -> u32
+        ensures { IsRootUp (length self.now) result }
+    {
+        self.cells.side
+    }
+
+    /// The numbers of the points in the cell `c`, ascending. The cells are numbered row by row; a point is in the
+    /// column `(x - x0) * side / (x1 - x0 + 1)`, rounded down, where `x0` and `x1` are the least and the
+    /// greatest `x`, and in the row that `y` gives likewise.
+    pub fn cell(&self, c: u32) -> &[u32]
+        requires { IsCellNumber (length self.now) c }
+        ensures { IsCell self.now c result.now }
+    {
+        &self.cells.lists[c as usize]
     }
 
     /// The points in a tree of frames.
@@ -60,14 +91,8 @@ impl Grid {
         ensures { let at = point_at points.now.points in
             IsFirst (length points.now.points) (λ r. IsBetween (at p) (at q) (at r)) result }
     {
-        let from = points.at(p);
-        let to = points.at(q);
-        for r in p.min(q) + 1..p.max(q) {
-            if strictly_between(from, to, &self.points[r as usize]) {
-                return Some(r);
-            }
-        }
-        None
+        let region = Region::Segment(*points.at(p), *points.at(q));
+        first_in(&self.points, &self.cells, &region)
     }
 
     /// The least number of a point that is no corner of `t` and lies in it or on its rim, or none.
@@ -79,15 +104,8 @@ impl Grid {
         ensures { let at = point_at points.now.points in
             IsFirst (length points.now.points) (λ r. (¬ IsCorner t r) × IsInClosedTriangle (at t.a) (at t.b) (at t.c) (at r)) result }
     {
-        let a = points.at(t.a);
-        let b = points.at(t.b);
-        let c = points.at(t.c);
-        for r in t.a + 1..t.b.max(t.c) {
-            if r != t.b && r != t.c && in_closed_triangle(a, b, c, &self.points[r as usize]) {
-                return Some(r);
-            }
-        }
-        None
+        let region = Region::Triangle(t, *points.at(t.a), *points.at(t.b), *points.at(t.c));
+        first_in(&self.points, &self.cells, &region)
     }
 
     /// The least number of a point in the left diamond of `p` to `q`, or none.
@@ -99,14 +117,8 @@ impl Grid {
         ensures { let at = point_at points.now.points in
             IsFirst (length points.now.points) (λ r. IsInLeftDiamond (at p) (at q) (at r)) result }
     {
-        let from = points.at(p);
-        let to = points.at(q);
-        for r in 0..points.len() {
-            if in_left_diamond(from, to, &self.points[r as usize]) {
-                return Some(r);
-            }
-        }
-        None
+        let region = Region::Diamond(*points.at(p), *points.at(q));
+        first_in(&self.points, &self.cells, &region)
     }
 
     /// The numbers of the points in a window, each once, in any order.

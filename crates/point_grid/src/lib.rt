@@ -1,19 +1,23 @@
 //! Emptiness queries on a set of points: is there a point on this segment, in this triangle, in this
-//! diamond? Each answers the least number of such a point, or none. One more lists a window.
+//! diamond? Each answers the least number of such a point, or none, by the cells of a square array that
+//! meet a box round the place. One more lists a window.
 //!
-//! For now a query goes through the points whose numbers can be such a point's. A cell index may take
-//! the place of the list behind the queries: no contract speaks of how a grid finds its answers.
-//! Beside the queries stands the order in which a point sees points after it.
+//! Beside the queries stand the points in a tree of frames, and the order in which a point sees points
+//! after it. They serve the enumerations of candidate edges and of empty triangles, and no other crate.
 #![tactic(auto)]
 
 mod blocking;
+mod bounds;
 mod box_tree;
+mod cells;
 mod direction;
 mod flat;
 mod forms;
 mod frame;
 mod framing;
 mod grid;
+mod region;
+mod search;
 mod sight;
 mod spot;
 mod window;
