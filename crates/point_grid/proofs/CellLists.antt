@@ -1,9 +1,8 @@
 -- What is read from cells.
-use Rattle.std.proofs.Common.{◌≡◌, ℕ, ◌+◌, ◌*◌, ◌<◌, ◌≤◌, Vec, Global, List, length, get_or, sym, subst, arith, ⊎_elim, mul-le-mul_right}
+use Rattle.std.proofs.Common.{◌≡◌, ℕ, ◌+◌, ◌*◌, ◌<◌, ◌≤◌, Vec, Global, List, length, get_or, sym, subst, arith}
 use Rattle.std.proofs.Math.Nat.{mul-le-mul}
 use Rattle.exact_predicates.specs.declared.point.Point.{Point}
 use Rattle.exact_predicates.specs.PointSet.{IsPointSet, point_at}
-use Rattle.exact_predicates.specs.Root.{IsRootUp}
 use Rattle.point_grid.specs.declared.cells.Cells.{Cells}
 use Rattle.point_grid.specs.Cells.{AreCells, IsCell, IsCellNumber, IsCellOver, column_of, row_of}
 use Rattle.point_grid.proofs.CellNumbers.{part_within, side_few, side_only, side_some}

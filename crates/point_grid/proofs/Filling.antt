@@ -1,5 +1,5 @@
 -- Cells that are filled with one point after the other.
-use Rattle.std.proofs.Common.{◌≡◌, ◌≢◌, ℕ, ◌+◌, ◌*◌, ◌<◌, ◌≤◌, Vec, Global, List, [], ◌∷◌, ◌++◌, length, get_or, set, refl, sym, subst, arith, inl, inr, ⊎_elim, length-append, length-set, ap, ◌∙◌}
+use Rattle.std.proofs.Common.{◌≡◌, ℕ, ◌+◌, ◌*◌, ◌<◌, Vec, Global, List, [], ◌∷◌, ◌++◌, length, get_or, set, refl, sym, subst, arith, ⊎_elim, length-append, length-set, ap, ◌∙◌}
 use Rattle.std.proofs.Common.{get_or-set_same, get_or-set_other}
 use Rattle.std.proofs.lemmas.Bool.{cases_eq, cases_lt}
 use Rattle.std.proofs.lemmas.List.{get_or_append_left, get_or_push}

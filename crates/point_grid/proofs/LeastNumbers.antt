@@ -1,7 +1,7 @@
 -- The least number of a kind, put together from parts.
-use Rattle.std.proofs.Common.{◌≡◌, ◌⊎◌, ℕ, ◌<◌, ◌≤◌, min, Option, Some, None, inl, inr, ⊎_elim, arith, sym, subst}
+use Rattle.std.proofs.Common.{◌≡◌, ◌⊎◌, ℕ, ◌<◌, min, Option, Some, None, inl, inr, ⊎_elim, arith, subst}
 use Rattle.std.proofs.lemmas.Bool.{cases_lt}
-use Rattle.point_grid.specs.First.{IsFirst, IsLeast, HoldsNowhere, lesser_of}
+use Rattle.point_grid.specs.First.{IsFirst, lesser_of}
 
 -- another way to say which numbers are meant
 pub IsFirst-same : (n : ℕ) (P Q : ℕ → Type 0) (a : Option ℕ) → ((r : ℕ) → r < n → P r → Q r) → ((r : ℕ) → r < n → Q r → P r) → IsFirst n P a → IsFirst n Q a

@@ -19,7 +19,13 @@ pub(crate) fn first_in(points: &[Point], cells: &Cells, region: &Region) -> Opti
 {
     let bounds = region.bounds();
     let frame = cells.frame;
-    let columns = parts_between(cells.side, frame.left, frame.right, bounds.left, bounds.right);
+    let columns = parts_between(
+        cells.side,
+        frame.left,
+        frame.right,
+        bounds.left,
+        bounds.right,
+    );
     let rows = parts_between(cells.side, frame.low, frame.high, bounds.low, bounds.high);
     for column in columns.first..columns.end {
         let least = first_in_column(points, cells, region, column, &rows);

@@ -1,4 +1,3 @@
-use Rattle.std.proofs.Common.{arith}
 use Rattle.point_grid.proofs.Tenths.{kept_less, kept_plus, tenth_above, tenth_below}
 use Rattle.point_grid.proofs.region.apex.Goals as goal
 

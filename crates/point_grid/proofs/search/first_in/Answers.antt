@@ -1,4 +1,4 @@
-use Rattle.std.proofs.Common.{◌≡◌, ℕ, ◌<◌, ◌≤◌, length, arith, sym, ◌∙◌}
+use Rattle.std.proofs.Common.{arith, sym, ◌∙◌}
 use Rattle.exact_predicates.specs.PointSet.{point_at}
 use Rattle.point_grid.proofs.CellLists.{sides_few}
 use Rattle.point_grid.proofs.ColumnSearch.{column_found, column_passed}

@@ -1,4 +1,4 @@
-use Rattle.std.proofs.Common.{◌≡◌, ◌+◌, ◌*◌, ◌<◌, ◌≤◌, arith}
+use Rattle.std.proofs.Common.{arith}
 use Rattle.point_grid.proofs.CellLists.{cell_list, cell_small, sides_few}
 use Rattle.point_grid.proofs.CellNumbers.{cell_within}
 use Rattle.point_grid.proofs.ColumnSearch.{row_next}

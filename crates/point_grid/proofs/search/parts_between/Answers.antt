@@ -1,4 +1,4 @@
-use Rattle.std.proofs.Common.{◌≡◌, ◌*◌, ◌^◌, ◌≤◌, ◌≤ℤ◌, unsigned_abs, arith}
+use Rattle.std.proofs.Common.{arith}
 use Rattle.std.proofs.lemmas.Int.{ints}
 use Rattle.point_grid.proofs.Bits.{kept64}
 use Rattle.point_grid.proofs.CellNumbers.{part_rises}

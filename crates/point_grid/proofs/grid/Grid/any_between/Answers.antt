@@ -1,4 +1,3 @@
-use Rattle.std.proofs.Common.{◌∙◌}
 use Rattle.point_grid.proofs.grid.Grid.any_between.Goals as goal
 
 pub returns : goal.returns

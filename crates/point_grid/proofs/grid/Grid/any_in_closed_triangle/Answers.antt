@@ -1,4 +1,3 @@
-use Rattle.std.proofs.Common.{◌∙◌}
 use Rattle.point_grid.proofs.grid.Grid.any_in_closed_triangle.Goals as goal
 
 pub returns : goal.returns

@@ -1,4 +1,4 @@
-use Rattle.std.proofs.Common.{◌≡◌, ℕ, List, length, subst, sym}
+use Rattle.std.proofs.Common.{List, length, subst, sym}
 use Rattle.exact_predicates.specs.declared.point.Point.{Point}
 use Rattle.point_grid.specs.Cells.{IsCell, IsCellNumber}
 use Rattle.point_grid.proofs.CellLists.{cell_read}
