@@ -8,7 +8,9 @@ use Rattle.lmt_network.specs.Network.{NetworkParts, tri_at}
 use Rattle.lmt_network.specs.Numbers.{IsMinimalPair, IsNumberOf, IsOnLeft, IsOnRight, IsSideOf, IsOtherSide, IsBroken}
 use Rattle.lmt_network.proofs.Picked.{Contains-nil}
 use Rattle.edge_marks.specs.declared.view.Known.{Known}
-use Rattle.edge_marks.specs.Told.{Asked, looked_all, FoundLive, AskForSidesOf, AskForSides, HasLiveSides, HasKilledSide, IsLivePair, IsBrokenWith}
+use Rattle.edge_marks.specs.declared.answer.Found.{Found}
+use Rattle.edge_marks.specs.declared.answer.Found.TheVariants.{Supported, Unsupported}
+use Rattle.edge_marks.specs.Told.{Asked, looked_all, FoundLive, AskForSidesOf, AskForSides, HasLiveSides, HasKilledSide, IsLivePair, IsBrokenWith, FoundBy}
 use Rattle.edge_marks.proofs.Loads.{looked_on, seen_kept, live_front, live_back}
 
 -- each of the three sides that the network m gives is a side
@@ -126,3 +128,18 @@ one_left_broken n e lefts old mid new k so ls is ask broken = (
 pub all_lefts_broken : (n : NetworkParts) (e : ℕ) (lefts : List ℕ) (old new : Known) (k : ℕ) → LeftsBroken n e lefts old new k → length lefts ≤ k → ((t : ℕ) → IsOnLeft n e t → Contains lefts t) → IsBroken n new.seen e
 all_lefts_broken n e lefts old new k so done on l r pair = let m = at_member lefts l (on l (pair.l_in, (pair.a, pair.left_is))) in let m₁ = m.1 in
     subst (λ (t : ℕ). IsMinimalPair n e t r → Any (IsOtherSide n e t r) new.seen) m.2 (so.3 m.0 (omega arith) r) pair
+
+-- what was found by loads was found by more of them
+found_back : (n : NetworkParts) (e : ℕ) (xs ys : List Asked) (seen : List ℕ) (found : Found) → FoundBy n e ys seen found → FoundBy n e (xs ++ ys) seen found
+found_back n e xs ys seen (Supported l r) h = live_pair_back n e l r xs ys h
+found_back n e xs ys seen Unsupported h = h
+
+-- what was found by loads that followed others
+pub found_on : (n : NetworkParts) (e : ℕ) (old mid new kept : Known) (xs ys : List Asked) (found : Found) → mid ≡ looked_all xs old → new ≡ looked_all ys mid → kept ≡ new → AskForSides n e xs → AskForSides n e ys → FoundBy n e ys new.seen found
+    → (ls : List Asked) × (kept ≡ looked_all ls old) × AskForSides n e ls × FoundBy n e ls kept.seen found
+found_on n e old mid new kept xs ys found a b is ask more h = (
+  xs ++ ys,
+  is ∙ looked_on old mid new xs ys a b,
+  ask_both n e xs ys ask more,
+  subst (λ (d : Known). FoundBy n e (xs ++ ys) d.seen found) (sym is) (found_back n e xs ys new.seen found h),
+)

@@ -60,9 +60,11 @@ impl Marks {
             slot: _,
             bits,
             spare,
+            supports,
         } = seat;
         drop(bits);
         drop(spare);
+        drop(supports);
         let closed = table.close_with(place);
         drop_killed(&closed, &mut flags, count);
         put_away(closed);

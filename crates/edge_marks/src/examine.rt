@@ -57,10 +57,10 @@ impl Marks {
             × (result ≡ true → IsMinimalPair self.now.net e l r × HasLiveSides self.now.net e r ls)
             × (result ≡ false → IsMinimalPair self.now.net e l r → HasKilledSide self.now.net e r seat.new.known.seen) }
     {
-        if !net.minimal_pair(e, l, r) {
+        if !self.has_live_sides(net, seat, e, r) {
             return false;
         }
-        self.has_live_sides(net, seat, e, r)
+        net.minimal_pair(e, l, r)
     }
 
     // A triangle with which l makes a locally minimal pair whose other sides are all loaded live.
@@ -84,6 +84,53 @@ impl Marks {
         None
     }
 
+    // Whether e is locally minimal between l and r, and each other side of both is loaded live.
+    fn stands(&self, net: &Network, seat: &mut Seat, e: u32, l: u32, r: u32) -> bool
+        requires belongs { Belongs self.now seat.old × (net.now ≡ self.now.net) }
+        requires inside { e < length self.now.net.edges }
+        requires on_left { IsOnLeft self.now.net e l }
+        requires on_right { IsOnRight self.now.net e r }
+        ensures seat { IsSameSeat seat.old seat.new × Belongs self.now seat.new }
+        ensures told { (ls : List Asked) × (seat.new.known ≡ looked_all ls seat.old.known) × AskForSides self.now.net e ls
+            × (result ≡ true → IsLivePair self.now.net e l r ls) }
+    {
+        if !self.has_live_sides(net, seat, e, l) {
+            return false;
+        }
+        self.pairs_with(net, seat, e, l, r)
+    }
+
+    // The support that the seat found last, where it still stands.
+    fn last_support(&self, net: &Network, seat: &mut Seat, e: u32) -> Option<(u32, u32)>
+        requires belongs { Belongs self.now seat.old × (net.now ≡ self.now.net) }
+        requires inside { e < length self.now.net.edges }
+        ensures seat { IsSameSeat seat.old seat.new × Belongs self.now seat.new }
+        ensures told { (ls : List Asked) × (seat.new.known ≡ looked_all ls seat.old.known) × AskForSides self.now.net e ls
+            × IfSome result (λ pair. IsLivePair self.now.net e pair.0 pair.1 ls) }
+    {
+        let (l, r) = seat.last_pair(net, e)?;
+        if self.stands(net, seat, e, l, r) {
+            return Some((l, r));
+        }
+        None
+    }
+
+    // Goes through all pairs, until one is a support.
+    fn search(&self, net: &Network, seat: &mut Seat, e: u32) -> Found
+        requires belongs { Belongs self.now seat.old × (net.now ≡ self.now.net) }
+        requires inside { e < length self.now.net.edges }
+        ensures seat { IsSameSeat seat.old seat.new × Belongs self.now seat.new }
+        ensures told { (ls : List Asked) × (seat.new.known ≡ looked_all ls seat.old.known) × AskForSides self.now.net e ls
+            × FoundBy self.now.net e ls seat.new.known.seen result }
+    {
+        for l in net.left(e) {
+            if let Some(r) = self.partner(net, seat, e, *l) {
+                return Found::Supported(*l, r);
+            }
+        }
+        Found::Unsupported
+    }
+
     /// Looks for a support of the edge: a triangle on its left and one on its right between which it is
     /// locally minimal, each other side of which was loaded live in this call (Dickerson and Montague,
     /// 1996). Unsupported where the seat has seen killed another side of each locally minimal pair.
@@ -98,11 +145,11 @@ impl Marks {
             × FoundBy self.now.net e ls seat.new.known.seen result }
         ensures tried { seat.new.known.tried ≡ seat.old.known.tried }
     {
-        for l in net.left(e) {
-            if let Some(r) = self.partner(net, seat, e, *l) {
-                return Found::Supported(*l, r);
-            }
+        if let Some((l, r)) = self.last_support(net, seat, e) {
+            return Found::Supported(l, r);
         }
-        Found::Unsupported
+        let found = self.search(net, seat, e);
+        seat.keep(net, e, found);
+        found
     }
 }

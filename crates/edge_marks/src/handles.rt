@@ -1,4 +1,5 @@
 // The marks and the seats, as callers have them.
+use crate::supports::Places;
 use crate::view::{About, Known, MarksRule};
 use atomic_table::{Seat as Place, Table};
 use lmt_network::Flags;
@@ -47,6 +48,8 @@ pub struct Seat {
     pub(crate) bits: Vec<u64>,
     // The bits of the seats that may be split off.
     pub(crate) spare: Vec<Vec<u64>>,
+    // Of each edge, where its support was found last; or nothing of any edge.
+    pub(crate) supports: Vec<Places>,
 }
 
 impl Model for Seat {

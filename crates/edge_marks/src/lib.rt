@@ -12,6 +12,7 @@ mod handles;
 mod open;
 mod plays;
 mod settle;
+mod supports;
 mod view;
 
 pub use answer::{Found, Kill, Look, Settle};

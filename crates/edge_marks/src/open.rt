@@ -64,6 +64,7 @@ impl Marks {
             slot: 0,
             bits,
             spare,
+            supports: Vec::new(alloc),
         };
         Ok((marks, seat))
     }
@@ -90,6 +91,7 @@ impl Marks {
             slot,
             bits,
             spare: Vec::new(self.heap),
+            supports: Vec::new(self.heap),
         }
     }
 }

@@ -1,3 +1,4 @@
+mod OneAnswer
 mod Deques
 mod Networks
 mod Teams

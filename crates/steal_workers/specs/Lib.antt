@@ -1,3 +1,4 @@
 pub mod Dealing
+pub mod Laws
 pub mod Tasks
 pub mod Workers

@@ -6,6 +6,7 @@
 mod answer;
 mod dealing;
 mod examining;
+mod laws;
 mod running;
 mod settling;
 mod supply;
@@ -15,5 +16,6 @@ mod worker;
 
 pub use answer::RunEnd;
 pub use dealing::Dealing;
+pub use laws::settled_law;
 pub use settling::{Settled, settle_all};
 pub use worker::WorkerState;

@@ -41,7 +41,7 @@ impl WorkerState {
     pub(crate) fn of(
         alloc: Global,
         net: &Network,
-        seat: Seat,
+        mut seat: Seat,
         number: u32,
         room: usize,
     ) -> Result<WorkerState, NoMemory>
@@ -49,6 +49,7 @@ impl WorkerState {
         ensures { IfOk result (λ w. w ≡ worker number seat 0 None) }
     {
         let supply = Supply::of(alloc, net.edges(), room)?;
+        seat.keep_supports(alloc, net)?;
         Ok(WorkerState {
             number,
             seat,
