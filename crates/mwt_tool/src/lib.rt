@@ -3,6 +3,7 @@
 #![tactic(auto)]
 
 mod answer;
+mod generator;
 mod price_lines;
 mod priced;
 mod refusal;
@@ -13,5 +14,6 @@ mod tests;
 mod top;
 mod words;
 
+pub use generator::generate;
 pub use solver::{Settings, solve};
 pub use top::{run, run_in_memory};
