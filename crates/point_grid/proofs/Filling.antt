@@ -1,8 +1,7 @@
 -- Cells that are filled with one point after the other.
-use Rattle.std.proofs.Common.{◌≡◌, ℕ, ◌+◌, ◌*◌, ◌<◌, Vec, Global, List, [], ◌∷◌, ◌++◌, length, get_or, set, refl, sym, subst, arith, ⊎_elim, length-append, length-set, ap, ◌∙◌}
+use Rattle.std.proofs.Common.{◌≡◌, ℕ, ◌+◌, ◌*◌, ◌<◌, Vec, Global, List, [], ◌∷◌, ◌++◌, length, get_or, set, refl, sym, subst, arith, ⊎_elim, length-set, ◌∙◌}
 use Rattle.std.proofs.Common.{get_or-set_same, get_or-set_other}
-use Rattle.std.proofs.lemmas.Bool.{cases_eq, cases_lt}
-use Rattle.std.proofs.lemmas.List.{get_or_append_left, get_or_push}
+use Rattle.std.proofs.lemmas.Bool.{cases_eq}
 use Rattle.exact_predicates.specs.declared.point.Point.{Point}
 use Rattle.exact_predicates.specs.PointSet.{point_at}
 use Rattle.exact_predicates.specs.Root.{IsRootUp}
@@ -11,18 +10,6 @@ use Rattle.point_grid.specs.declared.frame.Frame.{Frame}
 use Rattle.point_grid.specs.Cells.{cell_of, AreCells, AreEmptyLists}
 use Rattle.point_grid.specs.Frames.{IsFrameOf}
 use Rattle.point_grid.proofs.Listings.{AreBelow, below_none, below_push, below_skip}
-
--- one more empty list
-pub AreEmptyLists-push : (n : ℕ) (lists : List (Vec ℕ Global)) (v : Vec ℕ Global) → v.items ≡ [] → AreEmptyLists n lists → AreEmptyLists (n + 1) (lists ++ v ∷ [])
-AreEmptyLists-push n lists v e h =
-    let count = h.count_is in record {
-      count_is = omega (arith, length-append lists (v ∷ []));
-      each = λ k d l.
-          ⊎_elim
-          (λ m. ap (λ (w : Vec ℕ Global). w.items) (get_or_append_left lists (v ∷ []) d k (omega arith)) ∙ h.each k d m)
-          (λ m. ap (λ (w : Vec ℕ Global). w.items) (get_or_push lists v d k (omega arith)) ∙ e)
-          (cases_lt k n);
-    }
 
 -- the lists of the cells with the first r points
 pub record AreFilled (ps : List Point) (g : ℕ) (f : Frame) (r : ℕ) (lists : List (Vec ℕ Global)) : Type 0 where
