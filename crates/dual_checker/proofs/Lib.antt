@@ -1,1 +1,22 @@
+mod AnchorSums
+mod BySide
+mod CornerMarks
+mod Deciding
+mod Filtered
+mod Fitting
+mod GoodBounds
+mod Halving
+mod Judging
+mod Ledgers
+mod LiveLists
+mod Loops
+mod MarkedLines
+mod Minimality
 pub mod Networks
+mod OwnPrices
+mod PointLists
+mod Rims
+mod Slacks
+mod TightRows
+mod Tightness
+mod Triangulations

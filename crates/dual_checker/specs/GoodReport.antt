@@ -78,11 +78,19 @@ pub record HasLength (r : Report) : Type 0 where
 abbrev pub HasLiveTriangle : Report → Edge → Type 0
 HasLiveTriangle r e = (t : Tri) × (HasSide t e.a e.b ⊎ HasSide t e.b e.a) × IsLiveTriangle r.points (prices_of r) t
 
--- 8, prices: each line is marked by what its edge is, and an edge of the hull without a live triangle has the anchor 0
-pub record HasMarks (r : Report) : Type 0 where
-  pub hull : All (λ l. (l.kind ≡ Hull) ↔ IsHullEdge r.hull l.edge) r.live
-  pub skeleton : r.version ≡ 2 → All (λ l. (l.kind ≡ Skeleton) ↔ (Contains r.skeleton l.edge × (¬ IsHullEdge r.hull l.edge))) r.live
-  pub bare : All (λ l. l.kind ≡ Hull → HasLiveTriangle r l.edge ⊎ (l.value ≡ pos 0)) r.live
+-- a line has the kind of the skeleton exactly where its edge is in the skeleton and no edge of the hull
+abbrev pub IsSkeletonKind : Report → PriceLine → Type 0
+IsSkeletonKind r l = (l.kind ≡ Skeleton) ↔ (Contains r.skeleton l.edge × (¬ IsHullEdge r.hull l.edge))
+
+-- a live line is marked by what its edge is, and an edge of the hull without a live triangle has the anchor 0
+pub record IsMarked (r : Report) (l : PriceLine) : Type 0 where
+  pub hull : (l.kind ≡ Hull) ↔ IsHullEdge r.hull l.edge
+  pub skeleton : r.version ≡ 2 → IsSkeletonKind r l
+  pub bare : l.kind ≡ Hull → HasLiveTriangle r l.edge ⊎ (l.value ≡ pos 0)
+
+-- 8, prices: each line is marked so
+abbrev pub HasMarks : Report → Type 0
+HasMarks r = All (IsMarked r) r.live
 
 -- 9, slack: no live triangle has a negative one
 abbrev pub HasSlack : Report → Type 0
@@ -97,12 +105,16 @@ pub record HasBound (r : Report) : Type 0 where
 abbrev pub HasGap : Report → Type 0
 HasGap r = r.gap ≡ pos r.hi -ℤ r.bound
 
--- the parts in their order
+-- the parts in their order: the last four, those behind the hull, and all
+abbrev pub price_parts : Report → Parts
+price_parts r = part (HasMarks r) (part (HasSlack r) (part (HasBound r) (part (HasGap r) done)))
+
+abbrev pub edge_parts : Report → Parts
+edge_parts r =
+    part (HasCandidates r) (part (HasLive r) (part (HasSkeleton r) (part (HasTriangulation r) (part (HasLength r) (price_parts r)))))
+
 abbrev pub parts : Report → Parts
-parts r =
-    part (HasPoints r) (part (HasHull r) (part (HasCandidates r) (part (HasLive r) (part (HasSkeleton r)
-    (part (HasTriangulation r) (part (HasLength r) (part (HasMarks r) (part (HasSlack r) (part (HasBound r)
-    (part (HasGap r) done))))))))))
+parts r = part (HasPoints r) (part (HasHull r) (edge_parts r))
 
 -- A good report: it is within the ranges and orders of its version, and each part holds.
 pub record IsGoodReport (r : Report) : Type 0 where

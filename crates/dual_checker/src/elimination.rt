@@ -4,6 +4,7 @@ ghost use Rattle.mwt_base.specs.Limits.{most_edges, most_triangles};
 ghost use Rattle.exact_predicates.specs.Candidates.{AreCandidates, AreTrianglesOver};
 ghost use Rattle.exact_predicates.specs.Hull.{IsHull};
 ghost use Rattle.exact_predicates.specs.PointSet.{IsPointSet};
+ghost use Rattle.lmt_network.specs.Flags.{live_numbers};
 ghost use Rattle.dual_checker.specs.Elimination.{HasTooManyEdges, HasTooManyTriangles, IsElimination, IsNetworkOf, IsWithinLimits};
 
 use crate::stop::CheckStop;
@@ -12,7 +13,7 @@ use empty_triangles::{TriStop, triangles};
 use exact_predicates::{Diamond, Edges, Hull, Points, Tris};
 use lmt_network::{Flags, Network, plain_settle};
 use point_grid::Grid;
-use std::alloc::Global;
+use std::alloc::{AllocError, Global};
 use std::thread::Threads;
 
 /// The network of a set of points, and which of its edges are live.
@@ -43,6 +44,20 @@ impl Elimination {
         let mut flags = Flags::all(alloc, count)?;
         plain_settle(&net, &mut flags);
         Ok(Elimination { net, flags })
+    }
+
+    /// The numbers of the live edges, ascending.
+    pub fn live_numbers(&self, alloc: Global) -> Result<Vec<u32>, AllocError>
+        requires { length self.now.flags ≡ length self.now.net.edges }
+        ensures { IfOk result (λ numbers. numbers.items ≡ live_numbers self.now.flags) }
+    {
+        let mut numbers = Vec::new(alloc);
+        for e in 0..self.net.edges() {
+            if self.flags.live(e) {
+                numbers.push(e)?;
+            }
+        }
+        Ok(numbers)
     }
 }
 

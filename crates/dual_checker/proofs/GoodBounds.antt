@@ -1,0 +1,61 @@
+-- No triangulation is shorter than the bound of a good report.
+use Rattle.std.proofs.Common.{◌≡◌, ◌⊎◌, ℕ, List, length, get_or, map, All, Contains, pos, ◌≤ℤ◌, ℤ, refl, sym, subst, arith, inl, inr}
+use Rattle.std.proofs.lemmas.Int.{ints}
+use Rattle.std.proofs.lemmas.List.Elements.{All-map, All-contains, Contains-get_or}
+use Rattle.exact_predicates.specs.declared.edge.Edge.{Edge}
+use Rattle.exact_predicates.specs.Length.{IsAtLeast}
+use Rattle.exact_predicates.specs.Triangulation.{edges}
+use Rattle.lmt_network.specs.Bounds.{IsSplit}
+use Rattle.lmt_network.specs.Live.{IsLive}
+use Rattle.lmt_network.specs.Prices.{Priced, ArePrices}
+use Rattle.lmt_network.specs.Skeleton.{IsSkeletonEdge}
+use Rattle.lmt_network.proofs.BoundLaws.{bound_law}
+use Rattle.cert_text.specs.declared.report.LineKind.{LineKind}
+use Rattle.cert_text.specs.declared.report.LineKind.TheVariants.{Hull, Inner, Skeleton}
+use Rattle.cert_text.specs.declared.report.PriceLine.{PriceLine}
+use Rattle.cert_text.specs.declared.report.Report.{Report}
+use Rattle.cert_text.specs.Within.{ArePrices as ArePricesOf}
+use Rattle.dual_checker.specs.GoodReport.{IsGoodReport, IsMarked, anchored_of, live_edges_of, price_of, prices_of}
+use Rattle.dual_checker.specs.Laws.{BoundIsLower}
+use Rattle.dual_checker.proofs.Ledgers.{map-map}
+use Rattle.dual_checker.proofs.OwnPrices.{prices_ascend}
+use Rattle.dual_checker.proofs.Tightness.{anchored-from, anchored-to}
+
+anchors_not_negative : (version : ℕ) (kind : LineKind) (value left right : ℤ) → ArePricesOf version kind value left right → (pos 0 ≤ℤ left) × (pos 0 ≤ℤ right)
+anchors_not_negative version Hull value left right h = let a = h.1 in let b = h.2 in (omega (arith, ints), omega (arith, ints))
+anchors_not_negative version Inner value left right h = let a = h.1 in let b = h.2 in (omega (arith, ints), omega (arith, ints))
+anchors_not_negative version Skeleton value left right h = (h.2.least, h.3.least)
+
+anchors_elsewhere : (r : Report) (l : PriceLine) (kind : LineKind) → l.kind ≡ kind → IsMarked r l → ArePricesOf r.version kind l.value l.left l.right
+    → Contains (anchored_of r) l.edge ⊎ ((l.left ≡ pos 0) × (l.right ≡ pos 0))
+anchors_elsewhere r l Hull e m h = inr (h.1, h.2)
+anchors_elsewhere r l Inner e m h = inr (h.1, h.2)
+anchors_elsewhere r l Skeleton e m h = let s = (m.skeleton h.0).0 e in inl (anchored-from r l.edge h.0 s.0 s.1)
+
+good_prices : (r : Report) → IsGoodReport r → ArePrices (anchored_of r) (prices_of r)
+good_prices r g = record {
+  ascending = prices_ascend r g.within;
+  not_negative = All-map (λ (p : Priced). (pos 0 ≤ℤ p.left) × (pos 0 ≤ℤ p.right)) price_of r.live (λ k d inside.
+      let l = get_or r.live k d in anchors_not_negative r.version l.kind l.value l.left l.right (g.within.live k d inside).prices);
+  elsewhere = All-map (λ (p : Priced). Contains (anchored_of r) p.edge ⊎ ((p.left ≡ pos 0) × (p.right ≡ pos 0))) price_of r.live (λ k d inside.
+      let l = get_or r.live k d in anchors_elsewhere r l l.kind refl (g.marks k d inside) (g.within.live k d inside).prices);
+}
+
+anchored_in_skeleton : (r : Report) → IsGoodReport r → All (IsSkeletonEdge r.points (live_edges_of r)) (anchored_of r)
+anchored_in_skeleton r g k d inside =
+    let e = get_or (anchored_of r) k d in
+    let (two, there, away) = anchored-to r e g.within (Contains-get_or (anchored_of r) k d inside) in
+    All-contains (IsSkeletonEdge r.points (live_edges_of r)) r.skeleton e g.skeleton.each there
+
+pub bound_is_lower : BoundIsLower
+bound_is_lower r tris g exclusion t =
+    let same = map-map (λ (p : Priced). p.edge) price_of r.live in
+    let split : IsSplit r.points r.hull r.diamond (anchored_of r) (prices_of r) = record {
+      hull_is = g.hull;
+      live = subst (λ (es : List Edge). IsLive r.points r.hull r.diamond es) (sym same) g.live;
+      skeleton = subst (λ (es : List Edge). All (IsSkeletonEdge r.points es) (anchored_of r)) (sym same) (anchored_in_skeleton r g);
+      prices_are = good_prices r g;
+      feasible = g.slack;
+    } in
+    subst (λ (b : ℤ). IsAtLeast r.points (edges r.hull tris) b) (sym g.bound.sum)
+    (bound_law r.points r.hull r.diamond (anchored_of r) (prices_of r) split exclusion tris t)
