@@ -1,8 +1,7 @@
 -- The anchors of a report's lines add up to its bound.
-use Rattle.std.proofs.Common.{◌≡◌, ◌⊎◌, ℕ, suc, ◌<◌, true, false, cond, Bool, List, [], ◌∷◌, length, get_or, map, fold, All, ℤ, pos, ◌+ℤ◌, refl, sym, ap, ◌∙◌, arith, subst, inl, inr}
+use Rattle.std.proofs.Common.{◌≡◌, suc, false, Bool, List, [], ◌∷◌, get_or, map, fold, All, ℤ, pos, ◌+ℤ◌, refl, ap, ◌∙◌, arith}
 use Rattle.std.proofs.lemmas.Bool.{false_from_ne_true, cond-true, cond-false}
-use Rattle.lmt_network.specs.Live.{IsHullEdge}
-use Rattle.lmt_network.specs.Prices.{Priced, anchors_of, bound, is_on_hull}
+use Rattle.lmt_network.specs.Prices.{anchors_of, bound, is_on_hull}
 use Rattle.lmt_network.proofs.Entries.{is_on_hull_decides}
 use Rattle.cert_text.specs.declared.report.LineKind.{LineKind}
 use Rattle.cert_text.specs.declared.report.LineKind.TheVariants.{Hull, Inner, Skeleton}

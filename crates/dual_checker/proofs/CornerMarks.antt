@@ -1,47 +1,11 @@
 -- Corners of triangles, and marks of them.
-use Rattle.std.proofs.Common.{◌≡◌, ◌≢◌, ◌⊎◌, ℕ, zero, suc, ◌+◌, ◌<◌, ◌≤◌, Bool, true, false, IsTrue, ◌↔◌, List, [], ◌∷◌, ◌++◌, length, get_or, set, take, replicate, Any, refl, sym, ap, subst, ◌∙◌, arith, inl, inr}
-use Rattle.std.proofs.lemmas.Bool.{cases_eq, false≢true}
+use Rattle.std.proofs.Common.{◌≡◌, ◌⊎◌, ℕ, zero, suc, ◌+◌, ◌<◌, ◌≤◌, Bool, true, false, ◌↔◌, List, [], ◌∷◌, ◌++◌, length, get_or, set, take, Any, refl, sym, ap, subst, ◌∙◌, arith, inl, inr}
+use Rattle.std.proofs.lemmas.Bool.{cases_eq}
 use Rattle.std.proofs.lemmas.List.{length-set, get_or-set_same, get_or-set_other, take_more, take_all}
-use Rattle.exact_predicates.specs.declared.point.Point.{Point}
 use Rattle.exact_predicates.specs.declared.tri.Tri.{Tri}
-use Rattle.exact_predicates.specs.Plane.{IsInClosedTriangle}
-use Rattle.exact_predicates.specs.PointSet.{point_at}
-use Rattle.exact_predicates.specs.Triangulation.{IsCorner, IsEmpty}
+use Rattle.exact_predicates.specs.Triangulation.{IsCorner}
 use Rattle.exact_predicates.proofs.Elements.{Any-append_left, Any-append_right, Any-append_cases}
 use Rattle.dual_checker.specs.Corners.{IsCornerIn, AreCornerMarks}
-
--- x is a corner of t or it is not
-pub corner_or_not : (t : Tri) (x : ℕ) → IsCorner t x ⊎ ¬ IsCorner t x
-corner_or_not t x = elim (cases_eq x t.a) [
-  | inl a ↦ inl (inl a)
-  | inr not_a ↦ elim (cases_eq x t.b) [
-    | inl b ↦ inl (inr (inl b))
-    | inr not_b ↦ elim (cases_eq x t.c) [
-      | inl c ↦ inl (inr (inr c))
-      | inr not_c ↦ inr (λ is. elim is [ inl a ↦ not_a a | inr r ↦ elim r [ inl b ↦ not_b b | inr c ↦ not_c c ] ])
-    ]
-  ]
-]
-
--- where no point but the corners is in t, each point in it is a corner
-pub bare_corners : (ps : List Point) (t : Tri) → ((r : ℕ) → r < length ps → ¬ ((¬ IsCorner t r) × IsInClosedTriangle (point_at ps t.a) (point_at ps t.b) (point_at ps t.c) (point_at ps r)))
-    → (r : ℕ) → r < length ps → IsInClosedTriangle (point_at ps t.a) (point_at ps t.b) (point_at ps t.c) (point_at ps r) → IsCorner t r
-bare_corners ps t none r inside is_in = elim (corner_or_not t r) [ inl is ↦ is | inr other ↦ absurd (none r inside (other, is_in)) ]
-
--- no point is marked at the start
-get_or-replicate_false : (n x : ℕ) → get_or (replicate n false) x false ≡ false
-get_or-replicate_false zero x = refl
-get_or-replicate_false (suc n) zero = refl
-get_or-replicate_false (suc n) (suc x) = get_or-replicate_false n x
-
-pub AreCornerMarks-none : (count : ℕ) (marks : List Bool) → marks ≡ replicate count false → length marks ≡ count → AreCornerMarks count [] marks
-AreCornerMarks-none count marks e l = record {
-  one_each = l;
-  each = λ x inside. (
-    λ is. absurd (false≢true (sym (ap (λ (ms : List Bool). get_or ms x false) e ∙ get_or-replicate_false count x) ∙ is)),
-    λ (k, t, k_in, at, is). absurd (omega arith),
-  );
-}
 
 -- a mark stays where one is set, and is set where one is asked for
 marked-set : (marks : List Bool) (i x : ℕ) → i < length marks → get_or (set marks i true) x false ≡ true → (x ≡ i) ⊎ (get_or marks x false ≡ true)

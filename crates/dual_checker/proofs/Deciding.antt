@@ -1,5 +1,5 @@
 -- What tests in a row decide together.
-use Rattle.std.proofs.Common.{◌≡◌, ◌⊎◌, ℕ, ◌<◌, Bool, true, false, not, IsTrue, ◌↔◌, List, All, Contains, filter, refl, sym, ap, subst, ◌∙◌, arith, inl, inr}
+use Rattle.std.proofs.Common.{◌≡◌, ◌<◌, Bool, true, false, not, IsTrue, ◌↔◌, List, All, Contains, filter, sym, ap, subst, ◌∙◌, arith, inl, inr}
 use Rattle.std.proofs.lemmas.Bool.{false≢true}
 use Rattle.exact_predicates.specs.declared.point.Point.{Point}
 use Rattle.dual_checker.specs.declared.half_edges.HalfEdge.{HalfEdge}
@@ -12,8 +12,7 @@ pub minimal_decides : (ps : List Point) (halves lefts rights : List HalfEdge) (r
 minimal_decides ps halves lefts rights rim s t has r up says away turned is_left is_right decides =
     let right : rights ≡ filter (is_on (reversed s)) halves = is_right ∙ ap (λ (u : Side). filter (is_on u) halves) turned in
     let one = subst (λ (hs : List HalfEdge). IsTrue r ↔ HasMinimal ps s hs rights) is_left decides in
-    let both = subst (λ (hs : List HalfEdge). IsTrue r ↔ HasMinimal ps s (filter (is_on s) halves) hs) right one in
-    (
+    let both = subst (λ (hs : List HalfEdge). IsTrue r ↔ HasMinimal ps s (filter (is_on s) halves) hs) right one in (
       λ q. inr (inr (both.0 q)),
       λ m. elim m [
         | inl down ↦ absurd (omega arith)

@@ -1,6 +1,6 @@
 -- Half-edges that fit are those of a flip-minimal triangulation.
-use Rattle.std.proofs.Common.{◌≡◌, ℕ, ◌+◌, ◌*◌, ◌<◌, ◌≤◌, true, false, Bool, IsTrue, ◌↔◌, List, [], ◌∷◌, length, get_or, map, flat_map, All, Any, IsPermutation, Contains, sym, subst, ap, ◌∙◌, arith, inl, inr}
-use Rattle.std.proofs.lemmas.List.Elements.{All-contains, Contains-get_or}
+use Rattle.std.proofs.Common.{◌≡◌, ℕ, ◌+◌, ◌*◌, ◌<◌, Bool, IsTrue, ◌↔◌, List, length, get_or, All, Any, IsPermutation, Contains, sym, subst, ap, ◌∙◌, arith, inl, inr}
+use Rattle.std.proofs.lemmas.List.Elements.{Contains-get_or}
 use Rattle.exact_predicates.specs.declared.point.Point.{Point}
 use Rattle.exact_predicates.specs.declared.tri.Tri.{Tri}
 use Rattle.exact_predicates.specs.Triangulation.{IsEmpty, IsCorner, HasCorners}

@@ -1,5 +1,5 @@
 -- No triangulation is shorter than the bound of a good report.
-use Rattle.std.proofs.Common.{◌≡◌, ◌⊎◌, ℕ, List, length, get_or, map, All, Contains, pos, ◌≤ℤ◌, ℤ, refl, sym, subst, arith, inl, inr}
+use Rattle.std.proofs.Common.{◌≡◌, ◌⊎◌, ℕ, List, get_or, All, Contains, pos, ◌≤ℤ◌, ℤ, refl, sym, subst, arith, inl, inr}
 use Rattle.std.proofs.lemmas.Int.{ints}
 use Rattle.std.proofs.lemmas.List.Elements.{All-map, All-contains, Contains-get_or}
 use Rattle.exact_predicates.specs.declared.edge.Edge.{Edge}

@@ -1,10 +1,10 @@
 -- What the half-edges of triangles say of the triangles.
-use Rattle.std.proofs.Common.{◌≡◌, ℕ, Bool, zero, suc, ◌+◌, ◌<◌, ◌≤◌, true, false, cond, List, [], ◌∷◌, ◌++◌, length, get_or, filter, flat_map, count_by, sum_by, Any, Contains, IsPermutation, refl, sym, ap, subst, ◌∙◌, arith, inl, inr}
+use Rattle.std.proofs.Common.{◌≡◌, ℕ, Bool, zero, suc, ◌<◌, ◌≤◌, true, false, cond, List, [], ◌∷◌, length, get_or, filter, flat_map, count_by, sum_by, Any, Contains, IsPermutation, refl, sym, ap, subst, ◌∙◌, arith, inl, inr}
 use Rattle.std.proofs.lemmas.List.Elements.{Contains-append_left, Contains-append_right, Contains-append_cases, All-filter, All-contains_itself, filter_passes}
 use Rattle.std.proofs.lemmas.List.Sorted.{sum_by-IsPermutation, Contains-permutation, IsPermutation-sym}
 use Rattle.std.proofs.lemmas.List.Sums.{sum_by-cons, get_or-le-sum_by}
 use Rattle.exact_predicates.specs.declared.tri.Tri.{Tri}
-use Rattle.exact_predicates.specs.Triangulation.{sides, is_side, hit, side_count, HasCorners}
+use Rattle.exact_predicates.specs.Triangulation.{sides, hit, side_count, HasCorners}
 use Rattle.exact_predicates.proofs.Elements.{sum_by-some}
 use Rattle.exact_predicates.proofs.Pairs.{is_side_decides}
 use Rattle.exact_predicates.proofs.Sides.{sum_by-flat_map}

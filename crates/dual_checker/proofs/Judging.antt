@@ -1,5 +1,5 @@
 -- What the parts of a report decide together.
-use Rattle.std.proofs.Common.{◌≡◌, ◌⊎◌, ℕ, Bool, true, false, not, eqb, List, Option, None, Some, refl, sym, ap, subst, ◌∙◌, inl, inr}
+use Rattle.std.proofs.Common.{◌≡◌, ℕ, Bool, true, false, not, eqb, List, Option, None, Some, refl, sym, ap, subst, ◌∙◌, inr}
 use Rattle.std.specs.Cmp.Lexicographic.{pointwise}
 use Rattle.std.proofs.lemmas.Bool.{false≢true}
 use Rattle.std.proofs.lemmas.Bool.Decides.{Decides-eqb}
@@ -12,7 +12,7 @@ use Rattle.cert_text.specs.declared.report.Report.{Report}
 use Rattle.cert_text.specs.Within.{IsWithin}
 use Rattle.dual_checker.specs.declared.verdict.Verdict.{Verdict}
 use Rattle.dual_checker.specs.declared.verdict.Verdict.TheVariants.{Valid, Broken}
-use Rattle.dual_checker.specs.GoodReport.{HasPoints, HasHull, IsGoodReport, edge_parts}
+use Rattle.dual_checker.specs.GoodReport.{HasPoints, HasHull, edge_parts}
 use Rattle.dual_checker.specs.Parts.{IsFirstToFail}
 use Rattle.dual_checker.specs.Verdicts.{IsVerdict, verdict_of}
 

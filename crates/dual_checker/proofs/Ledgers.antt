@@ -1,8 +1,8 @@
 -- The live lines of a report, by the numbers of the edges of a network.
-use Rattle.std.proofs.Common.{◌≡◌, ◌≢◌, ℕ, ◌+◌, ◌<◌, ◌≤◌, Bool, cond, nat_lt, List, [], ◌∷◌, length, get_or, set, map, replicate, All, Contains, IsTrue, ◌↔◌, pos, refl, sym, ap, ◌∙◌, arith, subst, inl, inr}
+use Rattle.std.proofs.Common.{◌≡◌, ◌≢◌, ℕ, ◌+◌, ◌<◌, ◌≤◌, Bool, cond, nat_lt, List, [], ◌∷◌, length, get_or, set, map, All, Contains, IsTrue, ◌↔◌, pos, refl, sym, ap, ◌∙◌, arith, subst, inl, inr}
 use Rattle.std.proofs.lemmas.Bool.{cases_eq, cases_lt, cond-true, cond-false, lt-ltb, le-ltb}
 use Rattle.std.proofs.lemmas.List.{get_or-map, length-map, length-set, get_or-set_same, get_or-set_other, get_or_default}
-use Rattle.std.proofs.lemmas.List.Elements.{All-set, All-replicate, Contains-get_or}
+use Rattle.std.proofs.lemmas.List.Elements.{All-set, Contains-get_or}
 use Rattle.exact_predicates.specs.declared.edge.Edge.{Edge}
 use Rattle.exact_predicates.specs.declared.point.Point.{Point}
 use Rattle.exact_predicates.specs.declared.tri.Tri.{Tri}
@@ -42,17 +42,6 @@ pub record SharesUpto (r : Report) (net : NetworkParts) (numbers : List ℕ) (sh
   pub one_each : length shares ≡ length net.edges
   pub small : All AreSmall shares
   pub each : (j : ℕ) → j < k → AreSharesOf r (edge_at net (get_or numbers j 0)) (get_or shares (get_or numbers j 0) no_shares)
-
-small_none : AreSmall no_shares
-small_none = record { up = omega arith; down = omega arith }
-
-pub SharesUpto-none : (r : Report) (net : NetworkParts) (numbers : List ℕ) (shares : List Shares) → shares ≡ replicate (length net.edges) no_shares → length shares ≡ length net.edges
-    → SharesUpto r net numbers shares 0
-SharesUpto-none r net numbers shares e size = record {
-  one_each = size;
-  small = subst (λ (ss : List Shares). All AreSmall ss) (sym e) (All-replicate AreSmall (length net.edges) no_shares small_none);
-  each = λ j l. absurd (omega arith);
-}
 
 pub SharesUpto-more : (r : Report) (net : NetworkParts) (numbers : List ℕ) (shares : List Shares) (k e : ℕ) (s : Shares) → SharesUpto r net numbers shares k
     → e ≡ get_or numbers k 0 → e < length net.edges → AreSmall s → AreSharesOf r (edge_at net e) s → SharesUpto r net numbers (set shares e s) (k + 1)

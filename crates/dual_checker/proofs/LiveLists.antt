@@ -1,5 +1,5 @@
 -- The lists of a report, by the network and the live edges that are found for its points.
-use Rattle.std.proofs.Common.{◌≡◌, ℕ, ◌+◌, ◌<◌, ◌≤◌, Bool, true, false, ◌&&◌, eqb, not, List, [], ◌∷◌, length, get_or, take, map, IsTrue, ◌↔◌, Decides, nat_eq, refl, sym, ap, subst, ◌∙◌, arith}
+use Rattle.std.proofs.Common.{◌≡◌, ℕ, ◌+◌, ◌<◌, ◌≤◌, Bool, true, false, ◌&&◌, eqb, not, List, length, get_or, take, map, IsTrue, ◌↔◌, Decides, nat_eq, refl, sym, ap, subst, ◌∙◌, arith}
 use Rattle.std.proofs.lemmas.Bool.{eqb-true, eq-eqb, false≢true}
 use Rattle.std.proofs.lemmas.Bool.Decides.{Decides-eqb, Decides-and, Decides-like}
 use Rattle.std.proofs.lemmas.List.{get_or-map, length-map, take_all, take_more_same}
@@ -121,8 +121,7 @@ pub skeleton_decides : (r : Report) (net : NetworkParts) (flags : List Bool) (ps
 skeleton_decides r net flags ps skeleton xs ys b is live points own first second says =
     let edges = IsLive-only r.points r.hull r.diamond (live_edges net flags) (live_edges_of r) is.live live in
     let mine : AreSkeleton r.points (live_edges_of r) skeleton =
-        subst (λ (es : List Edge). AreSkeleton r.points es skeleton) edges (subst (λ (qs : List Point). AreSkeleton qs (live_edges net flags) skeleton) points own) in
-    (
+    subst (λ (es : List Edge). AreSkeleton r.points es skeleton) edges (subst (λ (qs : List Point). AreSkeleton qs (live_edges net flags) skeleton) points own) in (
       λ t. subst (λ (es : List Edge). AreSkeleton r.points (live_edges_of r) es) (sym first ∙ (says.0 t ∙ second)) mine,
       λ h. says.1 (first ∙ (one_law r.points (live_edges_of r) skeleton r.skeleton mine h ∙ sym second)),
     )

@@ -1,11 +1,11 @@
 -- What is tested of half-edges decides whether no flip makes an edge shorter.
-use Rattle.std.proofs.Common.{◌≡◌, ◌⊎◌, ℕ, ◌<◌, ◌≤◌, true, false, List, [], ◌∷◌, length, get_or, filter, flat_map, map, Any, All, Contains, IsPermutation, refl, sym, ap, subst, ◌∙◌, arith, inl, inr, cond, zero, suc, Bool}
+use Rattle.std.proofs.Common.{ℕ, List, get_or, filter, flat_map, Any, All, Contains, IsPermutation, refl, sym, subst, ◌∙◌, arith, inl, inr}
 use Rattle.std.specs.List.{list_any}
 use Rattle.std.proofs.lemmas.Bool.{cases_Bool, cases_lt, false≢true}
 use Rattle.std.proofs.lemmas.List.Elements.{All-contains, Contains-get_or}
 use Rattle.exact_predicates.specs.declared.point.Point.{Point}
 use Rattle.exact_predicates.specs.declared.tri.Tri.{Tri}
-use Rattle.exact_predicates.specs.Hull.{ring_pairs, IsHullPair}
+use Rattle.exact_predicates.specs.Hull.{ring_pairs}
 use Rattle.exact_predicates.specs.Triangulation.{is_side, is_inner, sides, HasCorners}
 use Rattle.exact_predicates.specs.Flip.{IsMinimalIn, IsFlipMinimal}
 use Rattle.exact_predicates.proofs.Pairs.{is_pair_decides, is_inner_decides, is_side_decides}

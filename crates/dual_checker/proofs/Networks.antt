@@ -62,7 +62,7 @@ IsWithinLimits-network ps hull diamond net set hull_is n = record {
       (over_hull ps hull many.hull diamond net.edges set hull_is many.hull_is n.candidates).all n.few_edges many.dense;
   triangles = λ many.
       let same : net.edges ≡ many.edges = AreCandidates-only ps many.hull diamond net.edges many.edges
-          (over_hull ps hull many.hull diamond net.edges set hull_is many.hull_is n.candidates) many.candidates in
+      (over_hull ps hull many.hull diamond net.edges set hull_is many.hull_is n.candidates) many.candidates in
       few_from_list (IsEmptyOver ps many.edges) net.tris most_triangles
       (subst (λ (es : List Edge). AreTrianglesOver ps es net.tris) same n.triangles).all n.few_triangles many.dense;
 }

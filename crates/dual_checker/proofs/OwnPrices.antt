@@ -1,12 +1,12 @@
 -- What the live lines of a report say of an edge.
-use Rattle.std.proofs.Common.{◌≡◌, ℕ, ◌<◌, ◌≤◌, min, max, Bool, true, false, cond, List, [], ◌∷◌, length, get_or, map, All, AllPairs, Contains, Decides, pos, ◌-ℤ◌, refl, sym, ap, ◌∙◌, arith, subst}
+use Rattle.std.proofs.Common.{◌≡◌, ℕ, ◌<◌, max, Bool, true, false, List, [], ◌∷◌, length, map, AllPairs, Contains, Decides, pos, refl, sym, ap, ◌∙◌, arith}
 use Rattle.std.proofs.lemmas.Bool.Decides.{same_from_decides}
 use Rattle.std.proofs.lemmas.List.{get_or-map, length-map}
 use Rattle.exact_predicates.specs.declared.edge.Edge.{Edge}
 use Rattle.exact_predicates.specs.Candidates.{EdgePrecedes, Joins}
 use Rattle.length_enclosure.specs.Enclosure.{weight}
 use Rattle.lmt_network.specs.Live.{IsHullEdge}
-use Rattle.lmt_network.specs.Prices.{Priced, priced, priced_edges, find_priced, is_on_hull, share, weight_between}
+use Rattle.lmt_network.specs.Prices.{Priced, priced, priced_edges, find_priced, is_on_hull, weight_between}
 use Rattle.lmt_network.proofs.Entries.{contains_map, find_priced-own, is_on_hull_decides, is_on_hull-comm}
 use Rattle.lmt_network.proofs.Slacks.{share-on, share-up, share-down}
 use Rattle.cert_text.specs.declared.report.PriceLine.{PriceLine}

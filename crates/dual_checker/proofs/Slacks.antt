@@ -1,12 +1,11 @@
 -- The slack of a triangle, by the shares of its sides.
-use Rattle.std.proofs.Common.{◌≡◌, ℕ, ◌<◌, cond, nat_lt, Bool, List, length, All, Contains, ℤ, ◌+ℤ◌, sym, ap, ◌∙◌, subst, arith, inl, inr, get_or}
+use Rattle.std.proofs.Common.{◌≡◌, ℕ, ◌<◌, cond, nat_lt, Bool, List, length, Contains, ℤ, ◌+ℤ◌, sym, ap, ◌∙◌, subst, arith, inl, inr, get_or}
 use Rattle.std.proofs.lemmas.Int.{ints}
 use Rattle.std.proofs.lemmas.List.{get_or_default}
-use Rattle.exact_predicates.specs.declared.tri.Tri.{Tri}
 use Rattle.lmt_network.specs.Flags.{live_numbers}
 use Rattle.lmt_network.specs.Network.{NetworkParts, tri_at}
 use Rattle.lmt_network.specs.Numbers.{IsNumberOf, IsSideOf}
-use Rattle.lmt_network.specs.Prices.{share, slack}
+use Rattle.lmt_network.specs.Prices.{slack}
 use Rattle.cert_text.specs.declared.report.Report.{Report}
 use Rattle.dual_checker.specs.declared.shares.Shares.{Shares}
 use Rattle.dual_checker.specs.GoodReport.{prices_of}

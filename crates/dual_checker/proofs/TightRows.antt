@@ -1,6 +1,7 @@
 -- Tight sides, by the triangles of a network that are on them.
-use Rattle.std.proofs.Common.{◌≡◌, ◌≢◌, ◌⊎◌, ℕ, ◌+◌, ◌<◌, ◌≤◌, Bool, true, false, IsTrue, ◌↔◌, List, length, get_or, slice_index, All, Any, Contains, ℤ, pos, refl, sym, ap, subst, ◌∙◌, arith, inl, inr}
-use Rattle.std.proofs.lemmas.Bool.{false≢true, cases_lt}
+use Rattle.std.proofs.Common.{◌≡◌, ◌≢◌, ℕ, ◌+◌, ◌<◌, Bool, true, false, IsTrue, ◌↔◌, List, length, slice_index, Any, Contains, ℤ, pos, of_z, w64, eqb, refl, sym, ap, subst, ◌∙◌, arith, inl, inr}
+use Rattle.std.proofs.lemmas.Bool.{false≢true, cases_lt, eqb-true, eq-eqb}
+use Rattle.std.proofs.lemmas.Int.{ints}
 use Rattle.std.proofs.lemmas.List.{get_or_default}
 use Rattle.std.proofs.lemmas.List.Elements.{Contains-get_or}
 use Rattle.exact_predicates.specs.declared.tri.Tri.{Tri}
@@ -12,6 +13,7 @@ use Rattle.cert_text.specs.declared.report.Report.{Report}
 use Rattle.dual_checker.specs.GoodReport.{prices_of}
 use Rattle.dual_checker.specs.LiveLines.{HasNumbers, IsRowOf}
 use Rattle.dual_checker.proofs.Ledgers.{live_by_sides, live_in_network}
+use mir.Val.{SFits}
 
 -- the triangle t of the network has live sides
 abbrev pub AreSidesLive : NetworkParts → List Bool → ℕ → Type 0
@@ -25,9 +27,6 @@ pub record IsSeen (r : Report) (net : NetworkParts) (flags : List Bool) (row : L
   pub loose : (k : ℕ) → k < i → AreSidesLive net flags (slice_index row k) → slack_of r net (slice_index row k) ≢ pos 0
   pub none : bare ≡ true → (k : ℕ) → k < i → ¬ AreSidesLive net flags (slice_index row k)
   pub some : bare ≡ false → (k : ℕ) × (k < i) × AreSidesLive net flags (slice_index row k)
-
-pub IsSeen-none : (r : Report) (net : NetworkParts) (flags : List Bool) (row : List ℕ) → IsSeen r net flags row 0 true
-IsSeen-none r net flags row = record { loose = λ k l. absurd (omega arith); none = λ e k l. absurd (omega arith); some = λ e. absurd (false≢true (sym e)) }
 
 -- one more that is not live
 pub IsSeen-dead : (r : Report) (net : NetworkParts) (flags : List Bool) (row : List ℕ) (i : ℕ) (bare : Bool) → IsSeen r net flags row i bare → ¬ AreSidesLive net flags (slice_index row i)
@@ -79,21 +78,20 @@ tight_found r net flags numbers row u v y k on inside live zero =
 
 -- where none is found, it is tight exactly where none is live and the anchor is 0
 pub tight_or_bare : (r : Report) (net : NetworkParts) (flags : List Bool) (numbers row : List ℕ) (u v : ℕ) (y : ℤ) (bare : Bool) (zero : Bool) → IsOnSide r net flags numbers row u v
-    → IsSeen r net flags row (length row) bare → (zero ≡ true → y ≡ pos 0) → (y ≡ pos 0 → zero ≡ true)
-    → (IsTrue bare × IsTrue zero) ↔ IsTightSide r.points r.hull (prices_of r) u v y
-tight_or_bare r net flags numbers row u v y bare zero on seen to from = (
+    → IsSeen r net flags row (length row) bare → (IsTrue zero ↔ (y ≡ pos 0)) → (IsTrue bare × IsTrue zero) ↔ IsTightSide r.points r.hull (prices_of r) u v y
+tight_or_bare r net flags numbers row u v y bare zero on seen says = (
   λ (b, z). inr (
     λ t side live.
         let (k, k_in, sides) = placed t side live in
         seen.none b k k_in sides,
-    to z,
+    says.0 z,
   ),
   λ tight. elim tight [
     | inl found ↦
         let (t, side, live, no_slack) = found in
         let (k, k_in, sides, same) = placed_at t side live in
         absurd (seen.loose k k_in sides (ap (λ (s : Tri). slack r.points r.hull (prices_of r) s) same ∙ no_slack))
-    | inr none ↦ (is_bare bare refl none.0, from none.1)
+    | inr none ↦ (is_bare bare refl none.0, says.1 none.1)
   ],
 ) where
   placed_at : (t : Tri) → HasSide t u v → IsLiveTriangle r.points (prices_of r) t
@@ -114,3 +112,17 @@ tight_or_bare r net flags numbers row u v y bare zero on seen to from = (
       let (k, k_in, sides) = seen.some e in
       let is = (on.row_is (slice_index row k)).0 (Contains-get_or row k 0 k_in) in
       absurd (none (tri_at net (slice_index row k)) is.1 ((live_by_sides r net flags numbers (slice_index row k) on.numbers_are.network on.numbers_are is.0).1 sides))
+
+-- an anchor is 0 where its bits are
+pub is_zero : (y : ℤ) → SFits w64 y → IsTrue (eqb (of_z w64 y) 0) ↔ (y ≡ pos 0)
+is_zero y fits = (
+  λ z. let h = eqb-true (of_z w64 y) 0 z in let small = fits.sfits in omega (arith, ints, h, small),
+  λ e. eq-eqb (of_z w64 y) 0 (ap (of_z w64) e),
+)
+
+-- the whole row decides
+pub row_decides : (r : Report) (net : NetworkParts) (flags : List Bool) (numbers row : List ℕ) (u v i : ℕ) (y : ℤ) (bare : Bool) → HasNumbers r net flags numbers → IsRowOf net row u v
+    → IsSeen r net flags row i bare → i ≡ length row → SFits w64 y → (IsTrue bare × IsTrue (eqb (of_z w64 y) 0)) ↔ IsTightSide r.points r.hull (prices_of r) u v y
+row_decides r net flags numbers row u v i y bare has is seen all fits =
+    tight_or_bare r net flags numbers row u v y bare (eqb (of_z w64 y) 0) (record { numbers_are = has; row_is = is })
+    (subst (λ (k : ℕ). IsSeen r net flags row k bare) all seen) (is_zero y fits)

@@ -1,14 +1,14 @@
 -- The prices of a report are tight exactly where each of its lines is.
-use Rattle.std.proofs.Common.{◌≡◌, ◌≢◌, ◌⊎◌, ℕ, ◌<◌, ◌≤◌, min, max, Bool, true, false, IsTrue, ◌↔◌, cond, List, [], length, get_or, map, filter, All, Contains, ℤ, pos, refl, sym, ap, ◌∙◌, arith, subst, inl, inr}
+use Rattle.std.proofs.Common.{◌≡◌, ◌≢◌, ◌⊎◌, ℕ, ◌<◌, ◌≤◌, Bool, true, false, IsTrue, ◌↔◌, cond, [], get_or, filter, All, Contains, ℤ, refl, sym, ap, ◌∙◌, arith, subst, inl, inr}
 use Rattle.std.specs.Prelude.{◌==◌}
-use Rattle.std.proofs.lemmas.Bool.{cases_lt, cases_Bool, false≢true, not_from_false, not-true, eqb-true, eq-eqb, false_from_ne_true, cond-true, cond-false}
+use Rattle.std.proofs.lemmas.Bool.{cases_lt, false≢true, not_from_false, not-true, eqb-true, eq-eqb, false_from_ne_true}
 use Rattle.std.proofs.lemmas.List.Elements.{All-contains, Contains-get_or}
 use Rattle.exact_predicates.specs.declared.edge.Edge.{Edge}
 use Rattle.exact_predicates.specs.Candidates.{Joins}
-use Rattle.exact_predicates.specs.Hull.{IsHull, IsHullPair}
+use Rattle.exact_predicates.specs.Hull.{IsHullPair}
 use Rattle.exact_predicates.proofs.Rings.{pair_ends}
 use Rattle.lmt_network.specs.Live.{IsHullEdge}
-use Rattle.lmt_network.specs.Prices.{Priced, priced, is_on_hull, IsTight, IsTightSide}
+use Rattle.lmt_network.specs.Prices.{Priced, priced, IsTight, IsTightSide}
 use Rattle.lmt_network.proofs.Entries.{is_on_hull_decides, map_contains}
 use Rattle.lmt_network.proofs.SideEdges.{edge_between}
 use Rattle.cert_text.specs.declared.report.LineKind.{LineKind}
@@ -56,15 +56,11 @@ tight_lines r is hull live skeleton marks tight = record {
       let (e, joins) = edge_between u v ends.2 in
       on_hull u v e joins pair (cases_lt u v) ends.2;
   lefts = λ e has.
-      let (two, there, away) = anchored-to r e is has in
-      let (l, l_in, same) = line_of r e (All-contains (λ (f : Edge). Contains (live_edges_of r) f) r.skeleton e (λ k d inside. (skeleton.each k d inside).member) there) in
-      let sides = of_skeleton l l_in two (subst (λ (f : Edge). Contains r.skeleton f) (sym same) there) (λ on. away (subst (λ (f : Edge). IsHullEdge r.hull f) same on)) in
+      let (l, l_in, same, sides) = anchored e has in
       subst (λ (f : Edge). IsTightSide r.points r.hull (prices_of r) f.a f.b (priced (prices_of r) f.a f.b).left) same
       (subst (λ (p : Priced). IsTightSide r.points r.hull (prices_of r) l.edge.a l.edge.b p.left) (sym (priced_own r l l.edge.a l.edge.b is l_in (joins_up l.edge))) sides.0);
   rights = λ e has.
-      let (two, there, away) = anchored-to r e is has in
-      let (l, l_in, same) = line_of r e (All-contains (λ (f : Edge). Contains (live_edges_of r) f) r.skeleton e (λ k d inside. (skeleton.each k d inside).member) there) in
-      let sides = of_skeleton l l_in two (subst (λ (f : Edge). Contains r.skeleton f) (sym same) there) (λ on. away (subst (λ (f : Edge). IsHullEdge r.hull f) same on)) in
+      let (l, l_in, same, sides) = anchored e has in
       subst (λ (f : Edge). IsTightSide r.points r.hull (prices_of r) f.b f.a (priced (prices_of r) f.a f.b).right) same
       (subst (λ (p : Priced). IsTightSide r.points r.hull (prices_of r) l.edge.b l.edge.a p.right) (sym (priced_own r l l.edge.a l.edge.b is l_in (joins_up l.edge))) sides.1);
 } where
@@ -76,34 +72,43 @@ tight_lines r is hull live skeleton marks tight = record {
       let kind = ((marked r l marks l_in).skeleton two).1 (there, away) in
       subst (λ (k : LineKind). IsTightKind r k l) kind (at_line l l_in)
 
+  -- the line of an anchored edge
+  anchored : (e : Edge) → Contains (anchored_of r) e → (l : PriceLine) × Contains r.live l × (l.edge ≡ e) × IsTightKind r Skeleton l
+  anchored e has =
+      let (two, there, away) = anchored-to r e is has in
+      let (l, l_in, same) = line_of r e (All-contains (λ (f : Edge). Contains (live_edges_of r) f) r.skeleton e (λ k d inside. (skeleton.each k d inside).member) there) in
+      (l, l_in, same, of_skeleton l l_in two (subst (λ (f : Edge). Contains r.skeleton f) (sym same) there) (λ on. away (subst (λ (f : Edge). IsHullEdge r.hull f) same on)))
+
   of_hull : (l : PriceLine) → Contains r.live l → IsHullEdge r.hull l.edge → IsTightOnHull r l.edge l.value
   of_hull l l_in on = subst (λ (k : LineKind). IsTightKind r k l) ((marked r l marks l_in).hull.1 on) (at_line l l_in)
+
+  -- a side of an edge of the hull, by the line of the edge
+  by_line : (u v : ℕ) (e : Edge) → Joins e u v → IsHullEdge r.hull e
+      → ((l : PriceLine) → l.edge ≡ e → IsTightOnHull r l.edge l.value → IsTightSide r.points r.hull (prices_of r) u v l.value)
+      → IsTightSide r.points r.hull (prices_of r) u v (priced (prices_of r) u v).value
+  by_line u v e joins on side =
+      let (l, l_in, same) = line_of r e (live.hull_edges e on) in
+      let both = of_hull l l_in (subst (λ (f : Edge). IsHullEdge r.hull f) (sym same) on) in
+      let own : priced (prices_of r) u v ≡ price_of l = priced_own r l u v is l_in (subst (λ (f : Edge). Joins f u v) (sym same) joins) in
+      subst (λ (p : Priced). IsTightSide r.points r.hull (prices_of r) u v p.value) (sym own) (side l same both)
 
   on_hull : (u v : ℕ) (e : Edge) → Joins e u v → IsHullPair r.hull u v → (u < v) ⊎ (v ≤ u) → u ≢ v → IsTightSide r.points r.hull (prices_of r) u v (priced (prices_of r) u v).value
   on_hull u v e joins pair (inl up) apart =
       let j0 = joins.0 in let j1 = joins.1 in
       let a : e.a ≡ u = omega arith in
       let b : e.b ≡ v = omega arith in
-      let forward : IsHullPair r.hull e.a e.b = rw (a, b) pair in
-      let (l, l_in, same) = line_of r e (live.hull_edges e (inl forward)) in
-      let both = of_hull l l_in (subst (λ (f : Edge). IsHullEdge r.hull f) (sym same) (inl forward)) in
-      let own : priced (prices_of r) u v ≡ price_of l = priced_own r l u v is l_in (subst (λ (f : Edge). Joins f u v) (sym same) joins) in
+      by_line u v e joins (inl (rw (a, b) pair)) (λ l same both.
       let la : l.edge.a ≡ u = ap (λ (f : Edge). f.a) same ∙ a in
       let lb : l.edge.b ≡ v = ap (λ (f : Edge). f.b) same ∙ b in
-      let side : IsTightSide r.points r.hull (prices_of r) u v l.value = (rw (la, lb) at both.0) pair in
-      subst (λ (p : Priced). IsTightSide r.points r.hull (prices_of r) u v p.value) (sym own) side
+      (rw (la, lb) at both.0) pair)
   on_hull u v e joins pair (inr down) apart =
       let j0 = joins.0 in let j1 = joins.1 in
       let a : e.a ≡ v = omega arith in
       let b : e.b ≡ u = omega arith in
-      let backward : IsHullPair r.hull e.b e.a = rw (a, b) pair in
-      let (l, l_in, same) = line_of r e (live.hull_edges e (inr backward)) in
-      let both = of_hull l l_in (subst (λ (f : Edge). IsHullEdge r.hull f) (sym same) (inr backward)) in
-      let own : priced (prices_of r) u v ≡ price_of l = priced_own r l u v is l_in (subst (λ (f : Edge). Joins f u v) (sym same) joins) in
+      by_line u v e joins (inr (rw (a, b) pair)) (λ l same both.
       let la : l.edge.a ≡ v = ap (λ (f : Edge). f.a) same ∙ a in
       let lb : l.edge.b ≡ u = ap (λ (f : Edge). f.b) same ∙ b in
-      let side : IsTightSide r.points r.hull (prices_of r) u v l.value = (rw (la, lb) at both.1) pair in
-      subst (λ (p : Priced). IsTightSide r.points r.hull (prices_of r) u v p.value) (sym own) side
+      (rw (la, lb) at both.1) pair)
 
 pub lines_tight : (r : Report) → IsWithin r → HasMarks r → IsTight r.points r.hull (anchored_of r) (prices_of r) → All (IsTightLine r) r.live
 lines_tight r is marks tight = λ k d inside. by_kind (get_or r.live k d) (Contains-get_or r.live k d inside) (get_or r.live k d).kind refl (is.live k d inside).prices where

@@ -1,21 +1,19 @@
 -- What is tested of half-edges decides whether triangles are a flip-minimal triangulation.
-use Rattle.std.proofs.Common.{◌≡◌, ◌≢◌, ◌⊎◌, ℕ, ◌+◌, ◌*◌, ◌<◌, ◌≤◌, Bool, true, false, IsTrue, List, length, get_or, map, filter, flat_map, count_by, All, Any, Contains, IsPermutation, ◌↔◌, refl, sym, ap, subst, ◌∙◌, arith, inl, inr, Decides}
+use Rattle.std.proofs.Common.{◌≡◌, ℕ, ◌+◌, ◌*◌, ◌<◌, ◌≤◌, List, length, get_or, map, count_by, All, Any, Contains, IsPermutation, sym, ap, subst, ◌∙◌, arith, inl, inr}
 use Rattle.std.specs.List.{list_any}
 use Rattle.std.specs.Prelude.{◌==◌}
 use Rattle.std.proofs.lemmas.Bool.{cases_Bool, cases_lt, false≢true, eqb-true, eqb-false}
-use Rattle.std.proofs.lemmas.Bool.Decides.{Decides-eqb}
 use Rattle.std.proofs.lemmas.List.Elements.{All-contains, Contains-get_or}
 use Rattle.exact_predicates.specs.declared.point.Point.{Point}
 use Rattle.exact_predicates.specs.declared.tri.Tri.{Tri}
 use Rattle.exact_predicates.specs.Hull.{ring_pairs, IsHullPair}
-use Rattle.exact_predicates.specs.Triangulation.{IsEmpty, IsCorner, IsTriangulation, side_count, is_side, is_inner, sides}
-use Rattle.exact_predicates.specs.Flip.{IsMinimalIn, IsFlipMinimal}
-use Rattle.exact_predicates.proofs.Pairs.{is_pair_decides, is_inner_decides}
+use Rattle.exact_predicates.specs.Triangulation.{IsEmpty, IsCorner, IsTriangulation, side_count, is_side}
+use Rattle.exact_predicates.proofs.Pairs.{is_pair_decides}
 use Rattle.dual_checker.specs.declared.half_edges.HalfEdge.{HalfEdge}
 use Rattle.dual_checker.specs.declared.half_edges.Side.{Side}
-use Rattle.dual_checker.specs.HalfEdges.{half_edges, is_on, side_of, reversed, IsCoveredOnce, IsBalancedAt, IsMinimalAt}
+use Rattle.dual_checker.specs.HalfEdges.{half_edges, is_on, side_of, reversed, IsCoveredOnce, IsBalancedAt}
 use Rattle.dual_checker.proofs.Rims.{rim_has}
-use Rattle.dual_checker.proofs.Halving.{count-half_edges, on_counted, counted_on, Contains-corners, corners-Contains}
+use Rattle.dual_checker.proofs.Halving.{count-half_edges, on_counted, counted_on}
 
 -- the half-edges of triangles, and the pairs of a hull as sides
 pub record AreOf (hull : List ℕ) (tris : List Tri) (halves : List HalfEdge) (rim : List Side) : Type 0 where

@@ -1,4 +1,3 @@
-use Rattle.std.proofs.Common.{◌≡◌, All, sym, subst}
 use Rattle.std.proofs.lemmas.List.Elements.{All-filter}
 use Rattle.dual_checker.specs.HalfEdges.{IsWithinPoints, is_on}
 use Rattle.dual_checker.proofs.Deciding.{minimal_decides}

@@ -1,4 +1,4 @@
-use Rattle.std.proofs.Common.{◌≡◌, ◌∙◌}
+use Rattle.std.proofs.Common.{◌∙◌}
 use Rattle.dual_checker.proofs.LiveLists.{HasNumbers-live}
 use Rattle.dual_checker.proofs.judge.broken_part.Goals as goal
 

@@ -1,4 +1,4 @@
-use Rattle.std.proofs.Common.{◌≡◌, subst}
+use Rattle.std.proofs.Common.{subst}
 use Rattle.cert_text.specs.declared.report.Report.{Report}
 use Rattle.dual_checker.specs.GoodReport.{price_parts}
 use Rattle.dual_checker.specs.Parts.{IsFirstToFail}

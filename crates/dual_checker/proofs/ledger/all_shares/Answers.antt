@@ -1,4 +1,4 @@
-use Rattle.std.proofs.Common.{◌≡◌, ℕ, ◌<◌, length, get_or, refl, arith}
+use Rattle.std.proofs.Common.{◌≡◌, length, refl, arith}
 use Rattle.dual_checker.proofs.Ledgers.{number_in, shares_at, SharesUpto-more, AreShares-all}
 use Rattle.dual_checker.proofs.ledger.all_shares.Goals as goal
 

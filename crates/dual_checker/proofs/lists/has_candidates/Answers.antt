@@ -1,4 +1,4 @@
-use Rattle.std.proofs.Common.{◌≡◌, IsTrue, ◌↔◌, ℕ, nat_eq, length, sym, subst}
+use Rattle.std.proofs.Common.{IsTrue, ◌↔◌, ℕ, nat_eq, sym, subst}
 use Rattle.dual_checker.specs.GoodReport.{HasCandidates}
 use Rattle.dual_checker.proofs.LiveLists.{candidates_decide}
 use Rattle.dual_checker.proofs.lists.has_candidates.Goals as goal

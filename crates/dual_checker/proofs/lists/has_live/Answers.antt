@@ -1,4 +1,4 @@
-use Rattle.std.proofs.Common.{◌≡◌, ◌<◌, ℕ, List, length, All, sym, subst}
+use Rattle.std.proofs.Common.{◌<◌, ℕ, List, length, All, sym, subst}
 use Rattle.std.proofs.lemmas.Bool.{eqb-true, eq-eqb}
 use Rattle.dual_checker.proofs.Ledgers.{within_range}
 use Rattle.dual_checker.proofs.LiveLists.{live_decides, as_many_lines}

@@ -1,4 +1,4 @@
-use Rattle.std.proofs.Common.{◌≡◌, ◌^◌, ◌≤◌, ℤ, ◌-ℤ◌, to_z, of_z, w64, unsigned_abs, pos, refl, sym, ap, ◌∙◌, arith}
+use Rattle.std.proofs.Common.{◌≡◌, ◌^◌, ◌≤◌, ℤ, ◌-ℤ◌, to_z, of_z, unsigned_abs, refl, ◌∙◌, arith}
 use Rattle.std.proofs.lemmas.Int.{ints}
 use Rattle.dual_checker.specs.declared.shares.Shares.{Shares}
 use Rattle.dual_checker.proofs.shares.line_shares.Goals as goal
@@ -28,5 +28,5 @@ returns-else-on_hull-clause-is c =
     let left : c.from-else-on_hull.result ≡ c.args.line.left = c.from-else-on_hull.ensures ∙ omega (arith, ints) in
     let right : c.from-else-on_hull-2.result ≡ c.args.line.right = c.from-else-on_hull-2.ensures ∙ omega (arith, ints) in
     rw c.if-on_hull.false (both _ _ _ _
-        (twice c.from.result c.from-value.result c.from-else-on_hull.result (omega (arith, ints)) (omega (arith, ints)) (omega (arith, ints)) ∙ rw (c.from.ensures, value, left) refl)
-        (kept c.from-value.result c.from-else-on_hull-2.result (omega (arith, ints)) (omega (arith, ints)) ∙ rw (value, right) refl))
+    (twice c.from.result c.from-value.result c.from-else-on_hull.result (omega (arith, ints)) (omega (arith, ints)) (omega (arith, ints)) ∙ rw (c.from.ensures, value, left) refl)
+    (kept c.from-value.result c.from-else-on_hull-2.result (omega (arith, ints)) (omega (arith, ints)) ∙ rw (value, right) refl))

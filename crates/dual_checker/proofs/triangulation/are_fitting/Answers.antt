@@ -1,6 +1,4 @@
-use Rattle.std.proofs.Common.{refl}
-use Rattle.dual_checker.specs.HalfEdges.{AreFitting}
-use Rattle.dual_checker.proofs.Deciding.{fitting_decides, part_fails}
+use Rattle.dual_checker.proofs.Deciding.{fitting_decides}
 use Rattle.dual_checker.proofs.triangulation.are_fitting.Goals as goal
 
 pub returns : goal.returns

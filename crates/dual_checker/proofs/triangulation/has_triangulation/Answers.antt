@@ -1,4 +1,4 @@
-use Rattle.std.proofs.Common.{◌≡◌, ◌↔◌, ◌+◌, ◌*◌, ◌<◌, ℕ, IsTrue, List, length, map, All, IsPermutation, sym, ap, subst, ◌∙◌, arith}
+use Rattle.std.proofs.Common.{◌≡◌, ◌↔◌, ◌+◌, ◌*◌, ◌<◌, ℕ, IsTrue, List, length, map, All, IsPermutation, sym, ap, subst, arith}
 use Rattle.exact_predicates.specs.declared.point.Point.{Point}
 use Rattle.exact_predicates.specs.declared.tri.Tri.{Tri}
 use Rattle.exact_predicates.specs.Hull.{ring_pairs}
@@ -36,10 +36,10 @@ returns c =
     let ps = c.args.points.now.points in
     let tris = c.as_slice-tris.result.now in
     let count : length c.args.report.now.tris + length c.args.report.now.hull + 2 ≡ 2 * length c.args.report.now.points =
-        omega (arith, c.if-tris-hull.false, c.len.ensures.value, ap length c.as_slice-tris.ensures.is, ap length c.as_slice-hull.ensures.is, ap length c.requires.points) in
+    omega (arith, c.if-tris-hull.false, c.len.ensures.value, ap length c.as_slice-tris.ensures.is, ap length c.as_slice-hull.ensures.is, ap length c.requires.points) in
     let each = c.in_ok-are_corners.ensures.0 c.if-not-branch.false in
     let tiles : AreTiles c.args.report.now.points c.args.report.now.hull c.args.report.now.tris =
-        tiles_read r ps tris c.len-2.result c.requires.points c.as_slice-tris.ensures.is c.len-2.ensures.value count (c.are_empty.ensures.0 c.if-not-are_empty.false) each in
+    tiles_read r ps tris c.len-2.result c.requires.points c.as_slice-tris.ensures.is c.len-2.ensures.value count (c.are_empty.ensures.0 c.if-not-are_empty.false) each in
     let are : AreOf c.args.report.now.hull c.args.report.now.tris c.in_ok-halves.halves c.in_ok-rim.rim = record {
       halves_are = subst (λ (ts : List Tri). IsPermutation (half_edges ts) c.in_ok-halves.halves) c.as_slice-tris.ensures.is c.in_ok-halves.ensures;
       rim_is = subst (λ (hull : List ℕ). IsPermutation (map side_of (ring_pairs hull)) c.in_ok-rim.rim) c.as_slice-hull.ensures.is c.in_ok-rim.ensures;

@@ -1,4 +1,3 @@
-use Rattle.std.proofs.Common.{ℕ}
 use Rattle.std.specs.List.{AllWithin}
 use Rattle.dual_checker.proofs.TightRows.{AreSidesLive}
 use Rattle.dual_checker.proofs.ledger.Ledger.has_live.Given as goal

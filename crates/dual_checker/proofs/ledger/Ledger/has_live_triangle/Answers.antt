@@ -1,4 +1,4 @@
-use Rattle.std.proofs.Common.{ℕ, ◌<◌, length, get_or, inl, inr}
+use Rattle.std.proofs.Common.{get_or, inl, inr}
 use Rattle.std.proofs.lemmas.List.Elements.{Contains-get_or}
 use Rattle.dual_checker.proofs.TightRows.{side_live, side_found, none_live}
 use Rattle.dual_checker.proofs.ledger.Ledger.has_live_triangle.Goals as goal

@@ -1,4 +1,4 @@
-use Rattle.std.proofs.Common.{◌≡◌, ◌↔◌, IsTrue, subst}
+use Rattle.std.proofs.Common.{◌↔◌, IsTrue, subst}
 use Rattle.cert_text.specs.declared.report.PriceLine.{PriceLine}
 use Rattle.dual_checker.specs.GoodReport.{IsMarked}
 use Rattle.dual_checker.proofs.Ledgers.{line_edge, number_in}

@@ -1,4 +1,4 @@
-use Rattle.std.proofs.Common.{◌≡◌, ℕ, ◌+◌, ◌<◌, ◌≤ℤ◌, length, pos, true, refl, sym, subst, ◌∙◌, arith, inl, inr}
+use Rattle.std.proofs.Common.{◌≡◌, ℕ, ◌<◌, ◌≤ℤ◌, length, pos, refl, sym, subst, ◌∙◌, arith, inl, inr}
 use Rattle.std.proofs.lemmas.Bool.{false≢true, cases_lt}
 use Rattle.std.proofs.lemmas.Int.{ints}
 use Rattle.exact_predicates.specs.declared.tri.Tri.{Tri}
@@ -38,7 +38,7 @@ loop-t-preserved c = λ i l live. elim (cases_lt i c.loop-t.t) [
             subst (λ (j : ℕ). pos 0 ≤ℤ slack_of self.report.now self.net.now j) here fine
         | else-is_live-via-else-is_live w ↦
             let alive = (live_by_sides self.report.now self.net.now self.flags.now self.numbers.now c.loop-t.t c.tris-t-end.ensures.valid c.requires.numbers_are inside).0
-                (subst (λ (j : ℕ). IsLiveTriangle self.report.now.points (prices_of self.report.now) (tri_at self.net.now j)) (sym here) live) in
+            (subst (λ (j : ℕ). IsLiveTriangle self.report.now.points (prices_of self.report.now) (tri_at self.net.now j)) (sym here) live) in
             absurd (false≢true (sym w.if-is_live.false ∙ c.is_live.ensures.1 alive))
       ]
 ]

@@ -1,4 +1,4 @@
-use Rattle.std.proofs.Common.{◌≡◌, ◌↔◌, ℕ, ◌<◌, length, get_or, Contains, IsTrue, ℤ, of_z, to_z, w64, sym, subst, arith}
+use Rattle.std.proofs.Common.{◌≡◌, ◌↔◌, get_or, IsTrue, ℤ, of_z, to_z, w64, sym, subst, arith}
 use Rattle.std.proofs.lemmas.Int.{ints}
 use Rattle.std.proofs.lemmas.List.Elements.{Contains-get_or}
 use Rattle.exact_predicates.specs.declared.edge.Edge.{Edge}
@@ -34,9 +34,9 @@ returns-then-is_tight_pair c =
     let up = IsHullPair r.hull l.edge.a l.edge.b → IsTightSide r.points r.hull (prices_of r) l.edge.a l.edge.b l.value in
     let down = IsHullPair r.hull l.edge.b l.edge.a → IsTightSide r.points r.hull (prices_of r) l.edge.b l.edge.a l.value in
     let first : IsTrue c.is_tight_pair.result ↔ (IsHullPair r.hull l.edge.a l.edge.b → IsTightSide r.points r.hull (prices_of r) l.edge.a l.edge.b l.value) =
-        subst (λ (y : ℤ). IsTrue c.is_tight_pair.result ↔ (IsHullPair r.hull l.edge.a l.edge.b → IsTightSide r.points r.hull (prices_of r) l.edge.a l.edge.b y)) kept c.is_tight_pair.ensures in
+    subst (λ (y : ℤ). IsTrue c.is_tight_pair.result ↔ (IsHullPair r.hull l.edge.a l.edge.b → IsTightSide r.points r.hull (prices_of r) l.edge.a l.edge.b y)) kept c.is_tight_pair.ensures in
     let turned = subst (λ (s : Side). IsTrue c.is_tight_pair-then-is_tight_pair.result ↔ (IsHullPair r.hull s.from s.to → IsTightSide r.points r.hull (prices_of r) s.from s.to (to_z w64 (of_z w64 l.value)))) c.reversed.ensures
-        c.is_tight_pair-then-is_tight_pair.ensures in
+    c.is_tight_pair-then-is_tight_pair.ensures in
     let second = subst (λ (y : ℤ). IsTrue c.is_tight_pair-then-is_tight_pair.result ↔ (IsHullPair r.hull l.edge.b l.edge.a → IsTightSide r.points r.hull (prices_of r) l.edge.b l.edge.a y)) kept turned in
     subst (λ (k : LineKind). IsTrue c.is_tight_pair-then-is_tight_pair.result ↔ IsTightKind r k l) (sym c.in-Hull.is)
     (both_hold up down c.is_tight_pair.result c.is_tight_pair-then-is_tight_pair.result first second c.if-is_tight_pair.true)
@@ -61,7 +61,7 @@ returns-then-is_tight_side c =
     let on_right = subst (λ (x : Edge). IsRowOf c.args.self.now.net.now c.right-then-is_tight_side.result.now x.b x.a) (sym c.requires.line) c.right-then-is_tight_side.ensures.members in
     let first = subst (λ (y : ℤ). IsTrue c.is_tight_side.result ↔ IsTightSide r.points r.hull (prices_of r) l.edge.a l.edge.b y) kept_left (c.is_tight_side.ensures l.edge.a l.edge.b on_left) in
     let second = subst (λ (y : ℤ). IsTrue c.is_tight_side-then-is_tight_side.result ↔ IsTightSide r.points r.hull (prices_of r) l.edge.b l.edge.a y) kept_right
-        (c.is_tight_side-then-is_tight_side.ensures l.edge.b l.edge.a on_right) in
+    (c.is_tight_side-then-is_tight_side.ensures l.edge.b l.edge.a on_right) in
     subst (λ (k : LineKind). IsTrue c.is_tight_side-then-is_tight_side.result ↔ IsTightKind r k l) (sym c.in-Skeleton.is)
     (both_hold (IsTightSide r.points r.hull (prices_of r) l.edge.a l.edge.b l.left) (IsTightSide r.points r.hull (prices_of r) l.edge.b l.edge.a l.right)
     c.is_tight_side.result c.is_tight_side-then-is_tight_side.result first second c.if-is_tight_side.true)

@@ -1,4 +1,4 @@
-use Rattle.std.proofs.Common.{◌≡◌, ◌↔◌, ℕ, ◌<◌, length, get_or, Contains, IsTrue, ℤ, of_z, to_z, w64, subst}
+use Rattle.std.proofs.Common.{◌↔◌, get_or, Contains, IsTrue, ℤ, w64, subst}
 use Rattle.std.proofs.lemmas.Int.{to_z-of_z}
 use Rattle.std.proofs.lemmas.List.Elements.{Contains-get_or}
 use Rattle.exact_predicates.specs.Hull.{IsHullPair}

@@ -1,10 +1,7 @@
-use Rattle.std.proofs.Common.{◌≡◌, ◌⊎◌, ◌↔◌, ℕ, ◌+◌, ◌<◌, length, Bool, ℤ, pos, of_z, w64, eqb, IsTrue, refl, sym, ap, subst, ◌∙◌, arith}
-use Rattle.std.proofs.lemmas.Bool.{eqb-true, eq-eqb, false≢true}
+use Rattle.std.proofs.Common.{◌≡◌, ◌+◌, pos, of_z, refl, sym, ap, subst, ◌∙◌, arith}
+use Rattle.std.proofs.lemmas.Bool.{false≢true}
 use Rattle.std.proofs.lemmas.Int.{ints}
-use Rattle.lmt_network.specs.Prices.{IsTightSide}
-use Rattle.dual_checker.specs.GoodReport.{prices_of}
-use Rattle.dual_checker.specs.LiveLines.{IsRowOf}
-use Rattle.dual_checker.proofs.TightRows.{IsSeen, IsSeen-dead, IsSeen-live, IsOnSide, tight_found, tight_or_bare}
+use Rattle.dual_checker.proofs.TightRows.{IsSeen, IsSeen-dead, IsSeen-live, IsOnSide, tight_found, row_decides}
 use Rattle.dual_checker.proofs.ledger.Ledger.is_tight_side.Goals as goal
 use Rattle.dual_checker.proofs.ledger.Ledger.is_tight_side.Goals.{then-is_live+else-slack-eq0, else-is_live}
 use mir.Syntax.{w128}
@@ -13,8 +10,7 @@ pub returns-then-slack-eq0 : goal.returns-then-slack-eq0
 returns-then-slack-eq0 c = λ u v row.
     let self = c.args.self.now in
     let on : IsOnSide self.report.now self.net.now self.flags.now self.numbers.now c.args.row.now u v = record { numbers_are = c.requires.ledger.numbers_are; row_is = row } in
-    let none : c.slack.result ≡ pos 0 = let h = c.if-slack-eq0.true in omega (arith, ints, h) in
-    (
+    let none : c.slack.result ≡ pos 0 = let h = c.if-slack-eq0.true in omega (arith, ints, h) in (
       λ _. tight_found self.report.now self.net.now self.flags.now self.numbers.now c.args.row.now u v c.args.anchor c.loop-t.t-index on c.loop-t-test.true
           (c.is_live.ensures.0 c.if-is_live.true) (sym c.slack.ensures ∙ none),
       λ _. refl,
@@ -37,21 +33,13 @@ loop-t-preserved c =
 pub returns-then-bare : goal.returns-then-bare
 returns-then-bare c = λ u v row.
     let self = c.args.self.now in
-    let on : IsOnSide self.report.now self.net.now self.flags.now self.numbers.now c.args.row.now u v = record { numbers_are = c.requires.ledger.numbers_are; row_is = row } in
-    let all : c.loop-t.t-index ≡ length c.args.row.now = omega (arith, c.loop-t-test.false, c.loop-t.auto.t-index-end) in
-    let seen = subst (λ (i : ℕ). IsSeen self.report.now self.net.now self.flags.now c.args.row.now i c.loop-t.bare) all c.loop-t.invariant in
-    let both = tight_or_bare self.report.now self.net.now self.flags.now self.numbers.now c.args.row.now u v c.args.anchor c.loop-t.bare (eqb (of_z w64 c.args.anchor) 0) on seen
-        (λ z. let h = eqb-true (of_z w64 c.args.anchor) 0 z in let fits = c.ranges.anchor.sfits in omega (arith, ints, h, fits))
-        (λ e. eq-eqb (of_z w64 c.args.anchor) 0 (ap (of_z w64) e)) in
+    let both = row_decides self.report.now self.net.now self.flags.now self.numbers.now c.args.row.now u v c.loop-t.t-index c.args.anchor c.loop-t.bare c.requires.ledger.numbers_are row
+    c.loop-t.invariant (omega (arith, c.loop-t-test.false, c.loop-t.auto.t-index-end)) c.ranges.anchor in
     (λ z. both.0 (c.if-bare.true, z), λ t. (both.1 t).1)
 
 pub returns-else-bare : goal.returns-else-bare
 returns-else-bare c = λ u v row.
     let self = c.args.self.now in
-    let on : IsOnSide self.report.now self.net.now self.flags.now self.numbers.now c.args.row.now u v = record { numbers_are = c.requires.ledger.numbers_are; row_is = row } in
-    let all : c.loop-t.t-index ≡ length c.args.row.now = omega (arith, c.loop-t-test.false, c.loop-t.auto.t-index-end) in
-    let seen = subst (λ (i : ℕ). IsSeen self.report.now self.net.now self.flags.now c.args.row.now i c.loop-t.bare) all c.loop-t.invariant in
-    let both = tight_or_bare self.report.now self.net.now self.flags.now self.numbers.now c.args.row.now u v c.args.anchor c.loop-t.bare (eqb (of_z w64 c.args.anchor) 0) on seen
-        (λ z. let h = eqb-true (of_z w64 c.args.anchor) 0 z in let fits = c.ranges.anchor.sfits in omega (arith, ints, h, fits))
-        (λ e. eq-eqb (of_z w64 c.args.anchor) 0 (ap (of_z w64) e)) in
+    let both = row_decides self.report.now self.net.now self.flags.now self.numbers.now c.args.row.now u v c.loop-t.t-index c.args.anchor c.loop-t.bare c.requires.ledger.numbers_are row
+    c.loop-t.invariant (omega (arith, c.loop-t-test.false, c.loop-t.auto.t-index-end)) c.ranges.anchor in
     (λ b. absurd (false≢true (sym c.if-bare.false ∙ b)), λ t. (both.1 t).0)

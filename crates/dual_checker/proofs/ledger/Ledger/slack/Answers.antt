@@ -1,4 +1,4 @@
-use Rattle.std.proofs.Common.{◌≡◌, ℕ, ◌^◌, ◌<◌, ◌≤◌, cond, nat_lt, get_or, ℤ, ◌+ℤ◌, of_z, to_z, unsigned_abs, ap, sym, ◌∙◌, arith}
+use Rattle.std.proofs.Common.{◌≡◌, ℕ, ◌^◌, ◌<◌, ◌≤◌, nat_lt, ℤ, ◌+ℤ◌, of_z, to_z, unsigned_abs, ap, sym, ◌∙◌, arith}
 use Rattle.std.proofs.lemmas.Bool.{cond-false, cond-true, le-ltb, lt-ltb}
 use Rattle.std.proofs.lemmas.Int.{ints}
 use Rattle.exact_predicates.specs.declared.tri.Tri.{Tri}
@@ -54,14 +54,14 @@ returns c =
           let bits : to_z w128 c.if-tri.middle-bits ≡ c.index-second.result.now.up = omega (arith, ints, w.middle-is, c.if-tri.middle-is, small) in
           three_shares c.index.result.now.up c.index-second.result.now.up c.index-2.result.now.down c.if-tri.middle-bits bits up small down
           ∙ slack_read self.report.now self.net.now self.flags.now self.shares.items c.args.t _ _ _ c.index.result.now c.index-second.result.now c.index-2.result.now c.index-second.result.now.up
-              c.requires.ledger.shares_are c.sides.ensures.ab c.sides.ensures.bc c.sides.ensures.ca c.requires.live first.1 second.1 third.1
-              (sym (cond-true (nat_lt x.b x.c) _ _ (lt-ltb x.b x.c l)))
+          c.requires.ledger.shares_are c.sides.ensures.ab c.sides.ensures.bc c.sides.ensures.ca c.requires.live first.1 second.1 third.1
+          (sym (cond-true (nat_lt x.b x.c) _ _ (lt-ltb x.b x.c l)))
       | else-tri w ↦
           let small = second.0.down in
           let l : x.c ≤ x.b = let h = w.if-tri.false in omega (arith, h, b_is, c_is) in
           let bits : to_z w128 c.if-tri.middle-bits ≡ c.index-second.result.now.down = omega (arith, ints, w.middle-is, c.if-tri.middle-is, small) in
           three_shares c.index.result.now.up c.index-second.result.now.down c.index-2.result.now.down c.if-tri.middle-bits bits up small down
           ∙ slack_read self.report.now self.net.now self.flags.now self.shares.items c.args.t _ _ _ c.index.result.now c.index-second.result.now c.index-2.result.now c.index-second.result.now.down
-              c.requires.ledger.shares_are c.sides.ensures.ab c.sides.ensures.bc c.sides.ensures.ca c.requires.live first.1 second.1 third.1
-              (sym (cond-false (nat_lt x.b x.c) _ _ (le-ltb x.b x.c l)))
+          c.requires.ledger.shares_are c.sides.ensures.ab c.sides.ensures.bc c.sides.ensures.ca c.requires.live first.1 second.1 third.1
+          (sym (cond-false (nat_lt x.b x.c) _ _ (le-ltb x.b x.c l)))
     ]

@@ -1,4 +1,4 @@
-use Rattle.std.proofs.Common.{◌≡◌, ◌↔◌, List, IsTrue, Contains, subst, ◌∙◌}
+use Rattle.std.proofs.Common.{◌↔◌, List, IsTrue, Contains, subst, ◌∙◌}
 use Rattle.std.specs.List.Sorted.{IsSorted}
 use Rattle.dual_checker.specs.declared.half_edges.Side.{Side}
 use Rattle.dual_checker.specs.HalfEdges.{side_cmp}
