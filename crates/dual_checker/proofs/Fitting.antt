@@ -5,7 +5,7 @@ use Rattle.exact_predicates.specs.declared.point.Point.{Point}
 use Rattle.exact_predicates.specs.declared.tri.Tri.{Tri}
 use Rattle.exact_predicates.specs.Triangulation.{IsEmpty, IsCorner, HasCorners}
 use Rattle.cert_text.specs.declared.report.Report.{Report}
-use Rattle.cert_text.specs.Within.{IsTriRow}
+use Rattle.cert_text.specs.Within.{IsTriRow, IsWithin}
 use Rattle.dual_checker.specs.declared.half_edges.HalfEdge.{HalfEdge}
 use Rattle.dual_checker.specs.declared.half_edges.Side.{Side}
 use Rattle.dual_checker.specs.Corners.{IsCornerIn}
@@ -25,6 +25,10 @@ pub record AreTiles (ps : List Point) (hull : List ℕ) (tris : List Tri) : Type
 pub empty_read : (r : Report) (ps : List Point) (tris : List Tri) → ps ≡ r.points → tris ≡ r.tris → HasTriangulation r → All (IsEmpty ps) tris
 empty_read r ps tris points same h =
     subst (λ (ts : List Tri). All (IsEmpty ps) ts) (sym same) (subst (λ (qs : List Point). All (IsEmpty qs) r.tris) (sym points) h.triangulation.empty)
+
+pub rows_read : (r : Report) (ps : List Point) (tris : List Tri) → ps ≡ r.points → tris ≡ r.tris → IsWithin r → All (IsTriRow (length ps)) tris
+rows_read r ps tris points same h =
+    subst (λ (ts : List Tri). All (IsTriRow (length ps)) ts) (sym same) (subst (λ (qs : List Point). All (IsTriRow (length qs)) r.tris) (sym points) h.tris)
 
 pub corners_read : (r : Report) (ps : List Point) (tris : List Tri) (count : ℕ) → ps ≡ r.points → tris ≡ r.tris → count ≡ length ps → HasTriangulation r
     → (x : ℕ) → x < count → IsCornerIn tris x

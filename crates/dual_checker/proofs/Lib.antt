@@ -4,7 +4,7 @@ mod CornerMarks
 mod Deciding
 mod Filtered
 mod Fitting
-mod GoodBounds
+pub mod GoodBounds
 mod Halving
 mod Judging
 mod Ledgers

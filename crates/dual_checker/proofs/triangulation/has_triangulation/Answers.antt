@@ -3,14 +3,18 @@ use Rattle.exact_predicates.specs.declared.point.Point.{Point}
 use Rattle.exact_predicates.specs.declared.tri.Tri.{Tri}
 use Rattle.exact_predicates.specs.Hull.{ring_pairs}
 use Rattle.exact_predicates.specs.Triangulation.{IsEmpty}
-use Rattle.cert_text.specs.Within.{IsTriRow}
 use Rattle.dual_checker.specs.Corners.{IsCornerIn}
 use Rattle.dual_checker.specs.GoodReport.{HasTriangulation}
 use Rattle.dual_checker.specs.HalfEdges.{AreFitting, half_edges, side_of}
 use Rattle.dual_checker.proofs.Deciding.{part_fails}
-use Rattle.dual_checker.proofs.Fitting.{AreTiles, tiles_read, corners_read, empty_read, decides_triangulation, halves_within}
+use Rattle.dual_checker.proofs.Fitting.{AreTiles, tiles_read, corners_read, empty_read, rows_read, decides_triangulation, halves_within}
 use Rattle.dual_checker.proofs.Triangulations.{AreOf}
 use Rattle.dual_checker.proofs.triangulation.has_triangulation.Goals as goal
+
+pub are_empty-requires-clause-within : goal.are_empty-requires-clause-within
+are_empty-requires-clause-within c =
+    let rows = rows_read c.args.report.now c.args.points.now.points c.as_slice-tris.result.now c.requires.points c.as_slice-tris.ensures.is c.requires.within in
+    λ k d inside. let row = rows k d inside in (row.b, row.c)
 
 pub returns-then-not-are_empty : goal.returns-then-not-are_empty
 returns-then-not-are_empty c =
@@ -26,8 +30,7 @@ pub are_fitting-requires : goal.are_fitting-requires
 are_fitting-requires c =
     record {
       within = halves_within c.args.points.now.points c.as_slice-tris.result.now c.in_ok-halves.halves
-          (subst (λ (ts : List Tri). All (IsTriRow (length c.args.points.now.points)) ts) (sym c.as_slice-tris.ensures.is)
-          (subst (λ (ps : List Point). All (IsTriRow (length ps)) c.args.report.now.tris) (sym c.requires.points) c.requires.within.tris)) c.in_ok-halves.ensures;
+          (rows_read c.args.report.now c.args.points.now.points c.as_slice-tris.result.now c.requires.points c.as_slice-tris.ensures.is c.requires.within) c.in_ok-halves.ensures;
     }
 
 pub returns : goal.returns
