@@ -9,27 +9,31 @@ use Rattle.mwt_base.specs.declared.status.Status.TheVariants.{Done}
 use Rattle.dual_checker.specs.Elimination.{IsWithinLimits}
 use Rattle.tsplib_points.specs.declared.file.File.{File}
 use Rattle.mwt_tool.specs.declared.refusal.Refusal.TheVariants.{Usage, TooLong}
+use Rattle.exact_predicates.specs.declared.diamond.Diamond.{Diamond}
 use Rattle.exact_predicates.specs.declared.diamond.Diamond.TheVariants.{On, Off}
 use Rattle.mwt_tool.specs.declared.solver.Settings.{Settings}
 use Rattle.mwt_tool.specs.declared.words.Mode.{Mode}
-use Rattle.mwt_tool.specs.declared.words.Mode.TheVariants.{Solve}
+use Rattle.mwt_tool.specs.declared.words.Mode.TheVariants.{Check, Solve}
 use Rattle.mwt_tool.specs.Intends.{Intends, ReadsInput, usage, too_long, answered}
 use Rattle.mwt_tool.specs.Modes.{Accepts, Answers, AskFor, Reads}
 use Rattle.mwt_tool.specs.Refusal.{Refuses}
 use Rattle.mwt_tool.specs.Said.{Means, IsAcceptedInput}
 use Rattle.mwt_tool.specs.Solves.{IsSolvable, ReportsOf, Solves, refused, accepted, dense_edges, dense_triangles, solved}
+use Rattle.mwt_tool.proofs.Checked.{Checks-valid}
 
 -- every mode reads the source
 reads : (mode : Mode) → Reads mode
 reads (Solve diamond) = tt
+reads Check = tt
 
 pub asked-reads : (words : List (List ℕ)) (mode : Mode) → AskFor mode words → ReadsInput words
 asked-reads words mode asked = record { mode = mode; asked = asked; reads = reads mode }
 
--- words that ask for the mode with neither value of the test ask for no mode
-pub none_asked : (words : List (List ℕ)) → ¬ AskFor (Solve On) words → ¬ AskFor (Solve Off) words → (mode : Mode) → ¬ AskFor mode words
-none_asked words on off (Solve On) = on
-none_asked words on off (Solve Off) = off
+-- words that ask for none of the modes, one by one
+pub none_asked : (words : List (List ℕ)) → ¬ AskFor (Solve On) words → ¬ AskFor (Solve Off) words → ¬ AskFor Check words → (mode : Mode) → ¬ AskFor mode words
+none_asked words on off check (Solve On) = on
+none_asked words on off check (Solve Off) = off
+none_asked words on off check Check = check
 
 -- words do not ask for both values of the test
 on_and_off : (words : List (List ℕ)) → AskFor (Solve On) words → AskFor (Solve Off) words → ⊥
@@ -39,12 +43,27 @@ on_and_off words (inr on) off =
     let second : ◌≡◌ {A = ℕ} 110 102 = ap (λ (w : List ℕ). get_or w 1 0) values in
     omega (arith, second)
 
+-- words whose first word is solve do not ask for check
+apart : (first : List ℕ) (words rest : List (List ℕ)) → first ≡ codes "solve" → words ≡ first ∷ rest → AskFor Check words → ⊥
+apart first words rest solve is check =
+    let firsts : codes "solve" ≡ codes "check" = sym solve ∙ ap (λ ws. get_or ws 0 []) (sym is ∙ check) in
+    let letter : ◌≡◌ {A = ℕ} 115 99 = ap (λ (w : List ℕ). get_or w 0 0) firsts in
+    omega (arith, letter)
+
+solve_or_check : (words : List (List ℕ)) (diamond : Diamond) → AskFor (Solve diamond) words → AskFor Check words → ⊥
+solve_or_check words On (inl alone) check = apart (codes "solve") words [] refl alone check
+solve_or_check words On (inr on) check = apart (codes "solve") words (codes "--diamond" ∷ codes "on" ∷ []) refl on check
+solve_or_check words Off off check = apart (codes "solve") words (codes "--diamond" ∷ codes "off" ∷ []) refl off check
+
 -- words ask for one mode
 one_mode : (words : List (List ℕ)) (m n : Mode) → AskFor m words → AskFor n words → m ≡ n
 one_mode words (Solve On) (Solve On) a b = refl
 one_mode words (Solve On) (Solve Off) a b = absurd (on_and_off words a b)
 one_mode words (Solve Off) (Solve On) a b = absurd (on_and_off words b a)
 one_mode words (Solve Off) (Solve Off) a b = refl
+one_mode words (Solve diamond) Check a b = absurd (solve_or_check words diamond a b)
+one_mode words Check (Solve diamond) a b = absurd (solve_or_check words diamond b a)
+one_mode words Check Check a b = refl
 
 -- an input that fits what the source tells
 abbrev told_input : Option (List ℕ) → List ℕ
@@ -107,6 +126,7 @@ Solves-done settings input status text fine (accepted file of reports) = Reports
 -- an input that a mode accepts is answered with Done
 Answers-done : (mode : Mode) (input : List ℕ) (status : Status) (text : List ℕ) → Accepts mode input → Answers mode input status text → status ≡ Done
 Answers-done (Solve diamond) input status text fine answers = Solves-done _ input status text fine answers
+Answers-done Check input status text fine answers = (Checks-valid input status text fine answers).0
 
 Intends-done : (words : List (List ℕ)) (input : List ℕ) (mode : Mode) (status : Status) (text : List ℕ) → AskFor mode words
     → length input ≤ most_bytes → Accepts mode input → Intends words input status text → status ≡ Done

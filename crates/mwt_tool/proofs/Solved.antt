@@ -1,7 +1,8 @@
 -- From the steps of `solve` to its report.
-use Rattle.std.proofs.Common.{◌≡◌, ℕ, ◌+◌, ◌*◌, ◌^◌, ◌<◌, ◌≤◌, ◌==◌, Bool, List, [], length, cond, filter, All, AllPairs, ℤ, pos, ◌-ℤ◌, ◌≤ℤ◌, arith, ap, sym, ◌∙◌, subst, inr}
+use Rattle.std.proofs.Common.{◌≡◌, ◌⊎◌, ℕ, ◌+◌, ◌*◌, ◌^◌, ◌<◌, ◌≤◌, ◌==◌, Bool, List, [], length, cond, filter, All, AllPairs, ℤ, pos, ◌-ℤ◌, ◌≤ℤ◌, arith, ap, sym, ◌∙◌, subst, inr}
+use Rattle.std.specs.Prelude.{◌↔◌}
 use Rattle.std.proofs.lemmas.Int.{ints}
-use Rattle.std.proofs.lemmas.List.Elements.{All-weaker}
+use Rattle.std.proofs.lemmas.List.Elements.{All-contains, All-weaker}
 use Rattle.mwt_base.specs.Limits.{most_anchor, most_edges, most_length, most_unit}
 use Rattle.exact_predicates.specs.declared.edge.Edge.{Edge}
 use Rattle.exact_predicates.specs.declared.point.Point.{Point}
@@ -15,18 +16,21 @@ use Rattle.exact_predicates.specs.Triangulation.{IsEmpty, IsTriangulation, edges
 use Rattle.length_enclosure.specs.Enclosure.{lo, hi}
 use Rattle.hull_sweep.specs.Rule.{FollowsRule}
 use Rattle.lmt_network.specs.Flags.{live_numbers}
-use Rattle.lmt_network.specs.Live.{IsLive}
+use Rattle.lmt_network.specs.Live.{IsHullEdge, IsLive}
 use Rattle.lmt_network.specs.Network.{NetworkParts}
 use Rattle.lmt_network.specs.PriceTables.{table_prices}
 use Rattle.lmt_network.specs.Prices.{IsTight}
 use Rattle.price_ascent.specs.Ascent.{IsAscent}
 use Rattle.price_ascent.specs.Entries.{anchored_edges, table_of}
 use Rattle.tsplib_points.specs.declared.file.File.{File}
+use Rattle.lmt_network.proofs.Picked.{All-from_members}
+use Rattle.cert_text.specs.declared.report.LineKind.TheVariants.{Hull}
+use Rattle.cert_text.specs.declared.report.PriceLine.{PriceLine}
 use Rattle.cert_text.specs.declared.report.Report.{Report}
 use Rattle.cert_text.specs.Lines.{most_bound}
 use Rattle.cert_text.specs.Within.{IsLiveRow, IsPointRow, IsTriRow, IsUpto, IsWithin, TriFollows}
 use Rattle.dual_checker.specs.Elimination.{IsElimination, IsNetworkOf}
-use Rattle.dual_checker.specs.GoodReport.{IsGoodReport, anchored_of, is_off_hull, prices_of}
+use Rattle.dual_checker.specs.GoodReport.{HasLiveTriangle, HasMarks, IsGoodReport, IsMarked, IsSkeletonKind, anchored_of, is_off_hull, prices_of}
 use Rattle.dual_checker.proofs.Networks.{IsElimination-settled, LeavesLive}
 use Rattle.mwt_tool.specs.declared.priced.Priced.{Priced as Part}
 use Rattle.mwt_tool.specs.declared.solver.Settings.{Settings}
@@ -128,6 +132,16 @@ module _ {n : NetworkParts} {flags : List Bool} {first : List Tri} {sweeps : ℕ
   anchored : anchored_edges n m.priced.entries ≡ anchored_of r
   anchored = sym right.anchored_are ∙ ap (λ (v : ℕ). cond (v == 1) [] (filter (is_off_hull r.hull) r.skeleton)) (sym m.version)
 
+  -- each line is marked by what its edge is
+  marked : All (λ l. (l.kind ≡ Hull) ↔ IsHullEdge r.hull l.edge) r.live → All (IsSkeletonKind r) r.live
+      → All (λ l. l.kind ≡ Hull → HasLiveTriangle r l.edge ⊎ (l.value ≡ pos 0)) r.live → HasMarks r
+  marked hull skeleton bare = All-from_members (IsMarked r) r.live
+      (λ l has. record {
+        hull = All-contains (λ (m : PriceLine). (m.kind ≡ Hull) ↔ IsHullEdge r.hull m.edge) r.live l hull has;
+        skeleton = λ _. All-contains (IsSkeletonKind r) r.live l skeleton has;
+        bare = All-contains (λ (m : PriceLine). m.kind ≡ Hull → HasLiveTriangle r m.edge ⊎ (m.value ≡ pos 0)) r.live l bare has;
+      })
+
   pub good : IsGoodReport r
   good =
       record {
@@ -139,7 +153,7 @@ module _ {n : NetworkParts} {flags : List Bool} {first : List Tri} {sweeps : ℕ
         skeleton = right.skeleton_is;
         triangulation = record { triangulation = m.triangulation; minimal = m.minimal };
         length = record { lower = m.lower; upper = m.upper };
-        marks = record { hull = right.hull_marks; skeleton = λ _. right.skeleton_marks; bare = right.bare };
+        marks = marked right.hull_marks right.skeleton_marks right.bare;
         slack = right.feasible;
         bound = record { sum = right.sum_is; tight = subst (λ (es : List Edge). IsTight r.points r.hull es (prices_of r)) anchored right.tight };
         gap = m.gap;

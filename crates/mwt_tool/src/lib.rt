@@ -3,7 +3,9 @@
 #![tactic(auto)]
 
 mod answer;
+mod checking;
 mod generator;
+mod laws;
 mod price_lines;
 mod priced;
 mod refusal;
@@ -15,5 +17,6 @@ mod top;
 mod words;
 
 pub use generator::generate;
+pub use laws::round_trip_law;
 pub use solver::{Settings, solve};
 pub use top::{run, run_in_memory};

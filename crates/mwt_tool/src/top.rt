@@ -48,7 +48,8 @@ pub fn run<S: Source, K: Sink, G: Gate, R: Threads + Sync>(
         ¬ Rose (K.faults sink.old) (K.faults sink.new) →
         IsAnswer result ⊎ (result ≡ Status.NoMemory) }
 
-    // An input that the mode accepts is answered with Done: with `solve`, an accepted file with its report.
+    // An input that the mode accepts is answered with Done: with `solve`, an accepted file with its report; with
+    // `check`, the text of a good report with `valid`.
     ensures complete { IsAcceptedInput (texts words.now) (S.left source.old) →
         ¬ Rose (S.faults source.old) (S.faults source.new) → ¬ Rose (K.faults sink.old) (K.faults sink.new) →
         (result ≡ Status.Done) ⊎ (result ≡ Status.NoMemory) }

@@ -4,7 +4,7 @@ use Rattle.mwt_tool.proofs.answer.decide.Goals as goal
 
 pub returns-in_ok-refusal_answer-in-None-clause-means : goal.returns-in_ok-refusal_answer-in-None-clause-means
 returns-in_ok-refusal_answer-in-None-clause-means g c =
-    Means-usage _ _ _ _ (none_asked _ (c.in-None.ensures.not_on refl) (c.in-None.ensures.not_off refl))
+    Means-usage _ _ _ _ (none_asked _ (c.in-None.ensures.not_on refl) (c.in-None.ensures.not_off refl) (c.in-None.ensures.not_check refl))
     (c.in_ok-refusal_answer-in-None.ensures.status, c.in_ok-refusal_answer-in-None.ensures.text)
 
 pub returns-in_ok-answer_of-in-Ok-clause-means : goal.returns-in_ok-answer_of-in-Ok-clause-means
