@@ -1,10 +1,7 @@
-// The top call over sources and sinks that fail, and the adapters over the streams of std.
+// The top call over sources and sinks that fail.
 use crate::run;
 use crate::tests::{bytes_of, plain_file, words_of};
-use mwt_base::{
-    Failed, MemSink, MemSource, OpenGate, Status, StdSink, StdSource, SureSink, read_whole,
-    write_whole,
-};
+use mwt_base::{Failed, MemSink, MemSource, OpenGate, Status, write_whole};
 use std::alloc::Global;
 use std::test::Fail;
 
@@ -48,21 +45,5 @@ fn sink_without_room(rt: HostRuntime) -> Result<(), Fail> {
         Err(Failed)
     );
     assert_eq!(rt; sink.bytes(), b"all of".as_slice());
-    Ok(())
-}
-
-#[test]
-fn streams_of_std(rt: HostRuntime) -> Result<(), Fail> {
-    let alloc = rt.alloc();
-    let text = b"all of it";
-    let mut source = StdSource::new(text.as_slice());
-    let read = read_whole(alloc, &mut source, 64).map_err(|_| Fail::from("not read"))?;
-    assert_eq!(rt; read.as_slice(), text.as_slice());
-    let mut sink = StdSink::new(Vec::new(alloc));
-    assert_eq!(rt; write_whole(&mut sink, text.as_slice()), Ok(()));
-    let mut kept = SureSink::new(alloc, 4).map_err(|_| Fail::from("no memory"))?;
-    assert_eq!(rt; write_whole(&mut kept, text.as_slice()), Ok(()));
-    assert_eq!(rt; kept.bytes(), b"all ".as_slice());
-    assert_eq!(rt; kept.count(), 9);
     Ok(())
 }
