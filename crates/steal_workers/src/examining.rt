@@ -10,8 +10,9 @@ use edge_marks::{Found, Kill, Look, Marks, Seat};
 use lmt_network::Network;
 use mwt_base::{Gate, Place};
 
-// Pushes the sides of the triangle t that are neither e nor hull edges.
-fn push_sides(net: &Network, supply: &mut Supply, e: u32, t: u32)
+// Pushes the sides of the triangle t that are neither e nor hull edges, and that the seat has not tried.
+fn push_sides(net: &Network, seat: &Seat, supply: &mut Supply, e: u32, t: u32)
+    requires seat { seat.now.known.net ≡ net.now }
     requires edges { supply.old.edges ≡ length net.now.edges }
     requires inside { t < length net.now.tris }
     ensures { supply.new ≡ supply.old }
@@ -19,23 +20,24 @@ fn push_sides(net: &Network, supply: &mut Supply, e: u32, t: u32)
     let sides = net.sides(t);
     for k in 0..sides.len() {
         let f = sides[k];
-        if f != e && !net.is_hull(f) {
+        if f != e && !net.is_hull(f) && !seat.tried(f) {
             supply.push(f);
         }
     }
 }
 
 // Pushes the other sides of the triangles on the edge, which may have lost their support with it.
-fn push_around(net: &Network, supply: &mut Supply, e: u32)
+fn push_around(net: &Network, seat: &Seat, supply: &mut Supply, e: u32)
+    requires seat { seat.now.known.net ≡ net.now }
     requires edges { supply.old.edges ≡ length net.now.edges }
     requires inside { e < length net.now.edges }
     ensures { supply.new ≡ supply.old }
 {
     for l in net.left(e) {
-        push_sides(net, supply, e, *l);
+        push_sides(net, seat, supply, e, *l);
     }
     for r in net.right(e) {
-        push_sides(net, supply, e, *r);
+        push_sides(net, seat, supply, e, *r);
     }
 }
 
@@ -51,7 +53,7 @@ pub fn kill(marks: &Marks, net: &Network, seat: &mut Seat, supply: &mut Supply, 
     ensures low { (seat.old.known.low < seat.new.known.low) × (seat.new.known.low ≤ most_kills marks.now.net) }
 {
     match marks.kill(seat, e) {
-        Kill::First => push_around(net, supply, e),
+        Kill::First => push_around(net, seat, supply, e),
         Kill::Already => {}
     }
 }
