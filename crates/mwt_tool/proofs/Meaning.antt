@@ -1,5 +1,5 @@
 -- From what was read to what is meant: one lemma a row.
-use Rattle.std.proofs.Common.{subst, ◌≡◌, ◌⊎◌, ℕ, ◌<◌, ◌≤◌, List, [], ◌∷◌, ◌++◌, length, refl, sym, ap, ◌∙◌, get_or, inl, inr, arith, codes, length-append}
+use Rattle.std.proofs.Common.{subst, ◌≡◌, ◌⊎◌, ℕ, ◌<◌, ◌≤◌, List, [], ◌++◌, length, refl, sym, inl, inr, arith, length-append}
 use Rattle.std.specs.Prelude.{None, Some}
 use Rattle.std.specs.declared.option.Option.{Option}
 use Rattle.mwt_base.specs.Limits.{most_bytes}
@@ -9,61 +9,49 @@ use Rattle.mwt_base.specs.declared.status.Status.TheVariants.{Done}
 use Rattle.dual_checker.specs.Elimination.{IsWithinLimits}
 use Rattle.tsplib_points.specs.declared.file.File.{File}
 use Rattle.mwt_tool.specs.declared.refusal.Refusal.TheVariants.{Usage, TooLong}
-use Rattle.exact_predicates.specs.declared.diamond.Diamond.{Diamond}
-use Rattle.exact_predicates.specs.declared.diamond.Diamond.TheVariants.{On, Off}
 use Rattle.mwt_tool.specs.declared.solver.Settings.{Settings}
 use Rattle.mwt_tool.specs.declared.words.Mode.{Mode}
-use Rattle.mwt_tool.specs.declared.words.Mode.TheVariants.{Check, Solve}
+use Rattle.mwt_tool.specs.declared.words.Mode.TheVariants.{Check, Make, Solve, Trial}
 use Rattle.mwt_tool.specs.Intends.{Intends, ReadsInput, usage, too_long, answered}
-use Rattle.mwt_tool.specs.Modes.{Accepts, Answers, AskFor, Reads}
+use Rattle.mwt_tool.specs.Modes.{Accepts, Answers, Reads}
 use Rattle.mwt_tool.specs.Refusal.{Refuses}
 use Rattle.mwt_tool.specs.Said.{Means, IsAcceptedInput}
-use Rattle.mwt_tool.specs.Solves.{IsSolvable, ReportsOf, Solves, refused, accepted, dense_edges, dense_triangles, solved}
+use Rattle.mwt_tool.specs.Words.{AskFor}
+use Rattle.mwt_tool.specs.Makes.{made_text}
+use Rattle.mwt_tool.specs.declared.solving.Form.{Form}
+use Rattle.mwt_tool.specs.declared.solving.Form.TheVariants.{Whole, Summary}
+use Rattle.mwt_tool.specs.Solves.{IsSolvable, ReportsAs, SolvesAs, refused, accepted, dense_edges, dense_triangles, solved}
 use Rattle.mwt_tool.proofs.Checked.{Checks-valid}
 
--- every mode reads the source
-reads : (mode : Mode) → Reads mode
-reads (Solve diamond) = tt
-reads Check = tt
-
-pub asked-reads : (words : List (List ℕ)) (mode : Mode) → AskFor mode words → ReadsInput words
-asked-reads words mode asked = record { mode = mode; asked = asked; reads = reads mode }
-
--- words that ask for none of the modes, one by one
-pub none_asked : (words : List (List ℕ)) → ¬ AskFor (Solve On) words → ¬ AskFor (Solve Off) words → ¬ AskFor Check words → (mode : Mode) → ¬ AskFor mode words
-none_asked words on off check (Solve On) = on
-none_asked words on off check (Solve Off) = off
-none_asked words on off check Check = check
-
--- words do not ask for both values of the test
-on_and_off : (words : List (List ℕ)) → AskFor (Solve On) words → AskFor (Solve Off) words → ⊥
-on_and_off words (inl alone) off = cc (alone, off)
-on_and_off words (inr on) off =
-    let values : codes "on" ≡ codes "off" = ap (λ ws. get_or ws 2 []) (sym on ∙ off) in
-    let second : ◌≡◌ {A = ℕ} 110 102 = ap (λ (w : List ℕ). get_or w 1 0) values in
-    omega (arith, second)
-
--- words whose first word is solve do not ask for check
-apart : (first : List ℕ) (words rest : List (List ℕ)) → first ≡ codes "solve" → words ≡ first ∷ rest → AskFor Check words → ⊥
-apart first words rest solve is check =
-    let firsts : codes "solve" ≡ codes "check" = sym solve ∙ ap (λ ws. get_or ws 0 []) (sym is ∙ check) in
-    let letter : ◌≡◌ {A = ℕ} 115 99 = ap (λ (w : List ℕ). get_or w 0 0) firsts in
-    omega (arith, letter)
-
-solve_or_check : (words : List (List ℕ)) (diamond : Diamond) → AskFor (Solve diamond) words → AskFor Check words → ⊥
-solve_or_check words On (inl alone) check = apart (codes "solve") words [] refl alone check
-solve_or_check words On (inr on) check = apart (codes "solve") words (codes "--diamond" ∷ codes "on" ∷ []) refl on check
-solve_or_check words Off off check = apart (codes "solve") words (codes "--diamond" ∷ codes "off" ∷ []) refl off check
+pub asked-reads : (words : List (List ℕ)) (mode : Mode) → AskFor mode words → Reads mode → ReadsInput words
+asked-reads words mode asked reads = record { mode = mode; asked = asked; reads = reads }
 
 -- words ask for one mode
 one_mode : (words : List (List ℕ)) (m n : Mode) → AskFor m words → AskFor n words → m ≡ n
-one_mode words (Solve On) (Solve On) a b = refl
-one_mode words (Solve On) (Solve Off) a b = absurd (on_and_off words a b)
-one_mode words (Solve Off) (Solve On) a b = absurd (on_and_off words b a)
-one_mode words (Solve Off) (Solve Off) a b = refl
-one_mode words (Solve diamond) Check a b = absurd (solve_or_check words diamond a b)
-one_mode words Check (Solve diamond) a b = absurd (solve_or_check words diamond b a)
-one_mode words Check Check a b = refl
+one_mode words m n a b = let x = a.means in let y = b.means in cc (x, y)
+
+-- words that ask for a mode which does not read ask for none that does
+pub not_asked-reads : (words : List (List ℕ)) (mode : Mode) → AskFor mode words → ¬ Reads mode → ¬ ReadsInput words
+not_asked-reads words mode asked never reads = never (subst Reads (one_mode words reads.mode mode reads.asked asked) reads.reads)
+
+reads_or_not : (mode : Mode) → Reads mode ⊎ (¬ Reads mode)
+reads_or_not (Solve settings) = inl tt
+reads_or_not Check = inl tt
+reads_or_not (Make making) = inr (λ reads. reads)
+reads_or_not (Trial settings making) = inr (λ reads. reads)
+
+-- where a mode does not read, the input does not matter
+Answers-unread : (mode : Mode) (a b : List ℕ) (status : Status) (text : List ℕ) → ¬ Reads mode → Answers mode a status text → Answers mode b status text
+Answers-unread (Solve settings) a b status text never answers = absurd (never tt)
+Answers-unread Check a b status text never answers = absurd (never tt)
+Answers-unread (Make making) a b status text never answers = answers
+Answers-unread (Trial settings making) a b status text never answers = answers
+
+Accepts-unread : (mode : Mode) (a b : List ℕ) → ¬ Reads mode → Accepts mode a → Accepts mode b
+Accepts-unread (Solve settings) a b never accepts = absurd (never tt)
+Accepts-unread Check a b never accepts = absurd (never tt)
+Accepts-unread (Make making) a b never accepts = accepts
+Accepts-unread (Trial settings making) a b never accepts = accepts
 
 -- an input that fits what the source tells
 abbrev told_input : Option (List ℕ) → List ℕ
@@ -83,20 +71,20 @@ Means-usage words had status text not_asked says = record {
 }
 
 pub Means-too_long : (words : List (List ℕ)) (had after : Option (List ℕ)) (mode : Mode) (status : Status) (text : List ℕ)
-    → AskFor mode words → TookMore most_bytes had after → Refuses TooLong status text → Means words had status text
-Means-too_long words None after mode status text asked more says = record {
+    → AskFor mode words → Reads mode → TookMore most_bytes had after → Refuses TooLong status text → Means words had status text
+Means-too_long words None after mode status text asked reads more says = record {
   input = more.bytes;
   told = tt;
-  intended = too_long (asked-reads words mode asked) more.more says;
+  intended = too_long (asked-reads words mode asked reads) more.more says;
 }
-Means-too_long words (Some xs) None mode status text asked more says = absurd more.taken
-Means-too_long words (Some xs) (Some ys) mode status text asked more says =
+Means-too_long words (Some xs) None mode status text asked reads more says = absurd more.taken
+Means-too_long words (Some xs) (Some ys) mode status text asked reads more says =
     let e : xs ≡ more.bytes ++ ys = more.taken in
     let far : most_bytes < length more.bytes = more.more in
     record {
       input = more.bytes ++ ys;
       told = e;
-      intended = too_long (asked-reads words mode asked) (omega (arith, length-append more.bytes ys)) says;
+      intended = too_long (asked-reads words mode asked reads) (omega (arith, length-append more.bytes ys)) says;
     }
 
 pub Means-answered : (words : List (List ℕ)) (had after : Option (List ℕ)) (bytes : List ℕ) (mode : Mode) (status : Status) (text : List ℕ)
@@ -112,33 +100,50 @@ Means-answered words (Some xs) after bytes mode status text asked all within ans
   intended = answered mode asked (λ _. within) answers;
 }
 
--- an accepted file whose points are within the limits is answered with Done
-ReportsOf-done : (settings : Settings) (file : File) (status : Status) (text : List ℕ) → IsWithinLimits file.points.points settings.diamond
-    → ReportsOf file settings status text → status ≡ Done
-ReportsOf-done settings file status text within (dense_edges many says) = absurd (within.edges many)
-ReportsOf-done settings file status text within (dense_triangles many says) = absurd (within.triangles many)
-ReportsOf-done settings file status text within (solved report same is done says) = done
+pub Means-unread : (words : List (List ℕ)) (had : Option (List ℕ)) (mode : Mode) (status : Status) (text : List ℕ)
+    → AskFor mode words → ¬ Reads mode → Answers mode [] status text → Means words had status text
+Means-unread words had mode status text asked never answers = record {
+  input = told_input had;
+  told = told_is had;
+  intended = answered mode asked (λ reads. absurd (never reads)) (Answers-unread mode [] (told_input had) status text never answers);
+}
 
-Solves-done : (settings : Settings) (input : List ℕ) (status : Status) (text : List ℕ) → IsSolvable settings input → Solves settings input status text → status ≡ Done
-Solves-done settings input status text fine (refused why is says) = let none = fine.accepted in cc (none, is)
-Solves-done settings input status text fine (accepted file of reports) = ReportsOf-done settings file status text (fine.points file of) reports
+-- an accepted file whose points are within the limits is answered with Done
+ReportsAs-done : (form : Form) (settings : Settings) (file : File) (status : Status) (text : List ℕ) → IsWithinLimits file.points.points settings.diamond
+    → ReportsAs form file settings status text → status ≡ Done
+ReportsAs-done form settings file status text within (dense_edges many says) = absurd (within.edges many)
+ReportsAs-done form settings file status text within (dense_triangles many says) = absurd (within.triangles many)
+ReportsAs-done form settings file status text within (solved report same is done says) = done
+
+SolvesAs-done : (form : Form) (settings : Settings) (input : List ℕ) (status : Status) (text : List ℕ) → IsSolvable settings input
+    → SolvesAs form settings input status text → status ≡ Done
+SolvesAs-done form settings input status text fine (refused why is says) = let none = fine.accepted in cc (none, is)
+SolvesAs-done form settings input status text fine (accepted file of reports) = ReportsAs-done form settings file status text (fine.points file of) reports
 
 -- an input that a mode accepts is answered with Done
 Answers-done : (mode : Mode) (input : List ℕ) (status : Status) (text : List ℕ) → Accepts mode input → Answers mode input status text → status ≡ Done
-Answers-done (Solve diamond) input status text fine answers = Solves-done _ input status text fine answers
+Answers-done (Solve settings) input status text fine answers = SolvesAs-done Whole settings input status text fine answers
 Answers-done Check input status text fine answers = (Checks-valid input status text fine answers).0
+Answers-done (Make making) input status text fine answers = answers.0
+Answers-done (Trial settings making) input status text fine answers = SolvesAs-done Summary settings (made_text making.seed making.points) status text fine answers
 
 Intends-done : (words : List (List ℕ)) (input : List ℕ) (mode : Mode) (status : Status) (text : List ℕ) → AskFor mode words
-    → length input ≤ most_bytes → Accepts mode input → Intends words input status text → status ≡ Done
+    → (Reads mode → length input ≤ most_bytes) → Accepts mode input → Intends words input status text → status ≡ Done
 Intends-done words input mode status text asked short fine (usage away says) = absurd (away mode asked)
-Intends-done words input mode status text asked short fine (too_long same far says) = absurd (omega arith)
+Intends-done words input mode status text asked short fine (too_long same far says) =
+    let few = short (subst Reads (one_mode words same.mode mode same.asked asked) same.reads) in
+    absurd (omega (arith, few, far))
 Intends-done words input mode status text asked short fine (answered other asked' short' answers) =
     Answers-done other input status text (subst (λ (m : Mode). Accepts m input) (one_mode words mode other asked asked') fine) answers
 
 pub Means-done : (words : List (List ℕ)) (had : Option (List ℕ)) (status : Status) (text : List ℕ) → IsAcceptedInput words had → Means words had status text → status ≡ Done
-Means-done words None status text has means = absurd (cc has.told)
-Means-done words (Some xs) status text has means =
-    let told : xs ≡ means.input = means.told in
-    let same : has.input ≡ means.input = let e : Some xs ≡ Some has.input = has.told in cc (e, told) in
-    let P : List ℕ → Type 0 = λ s. Intends words s status text in
-    Intends-done words has.input has.mode status text has.asked has.within has.accepted (subst P (sym same) means.intended)
+Means-done words had status text has means = of (reads_or_not has.mode) had has.told means.told
+  where
+    of : Reads has.mode ⊎ (¬ Reads has.mode) → (had : Option (List ℕ)) → (Reads has.mode → had ≡ Some has.input) → IsTold had means.input → status ≡ Done
+    of (inl reads) None told is = absurd (cc (told reads))
+    of (inl reads) (Some xs) told is =
+        let same : has.input ≡ means.input = let e : Some xs ≡ Some has.input = told reads in cc (e, is) in
+        let P : List ℕ → Type 0 = λ s. Intends words s status text in
+        Intends-done words has.input has.mode status text has.asked has.within has.accepted (subst P (sym same) means.intended)
+    of (inr never) had told is =
+        Intends-done words means.input has.mode status text has.asked (λ reads. absurd (never reads)) (Accepts-unread has.mode has.input means.input never has.accepted) means.intended

@@ -1,5 +1,5 @@
 -- What a call read and wrote, beside its answer.
-use Rattle.std.specs.Prelude.{◌≡◌, ℕ, ◌<◌, ◌≤◌, List, [], length, ⊤, Some, None}
+use Rattle.std.specs.Prelude.{◌≡◌, ℕ, ◌<◌, ◌≤◌, List, [], length, ⊤, Some}
 use Rattle.std.specs.declared.option.Option.{Option}
 use Rattle.mwt_base.specs.Limits.{most_bytes}
 use Rattle.mwt_base.specs.Told.{IsTold, Grows, GrowsByPrefix, TookMore}
@@ -7,7 +7,8 @@ use Rattle.mwt_base.specs.declared.status.Status.{Status}
 use Rattle.mwt_base.specs.declared.status.Status.TheVariants.{Done, Broken, Refused, ReadFault, WriteFault, NoMemory}
 use Rattle.mwt_tool.specs.declared.words.Mode.{Mode}
 use Rattle.mwt_tool.specs.Intends.{Intends}
-use Rattle.mwt_tool.specs.Modes.{Accepts, AskFor}
+use Rattle.mwt_tool.specs.Modes.{Accepts, Reads}
+use Rattle.mwt_tool.specs.Words.{AskFor}
 
 -- the program came to an answer, and wrote it
 abbrev pub IsAnswer : Status → Type 0
@@ -42,11 +43,11 @@ pub record ReadsUpTo (limit : ℕ) (had after : Option (List ℕ)) : Type 0 wher
   pub whole : (input : List ℕ) → had ≡ Some input → length input ≤ limit → after ≡ Some []
   pub past : (input : List ℕ) → had ≡ Some input → limit < length input → TookMore limit had after
 
--- words that ask for a mode, and in a source that tells an input that this mode accepts
+-- words that ask for a mode, and an input that this mode accepts: where it reads, the one that the source tells
 pub record IsAcceptedInput (words : List (List ℕ)) (had : Option (List ℕ)) : Type 0 where
   pub mode : Mode
   pub asked : AskFor mode words
   pub input : List ℕ
-  pub told : had ≡ Some input
-  pub within : length input ≤ most_bytes
+  pub told : Reads mode → had ≡ Some input
+  pub within : Reads mode → length input ≤ most_bytes
   pub accepted : Accepts mode input

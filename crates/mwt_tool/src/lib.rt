@@ -4,13 +4,17 @@
 
 mod answer;
 mod checking;
+mod command;
 mod generator;
 mod laws;
+mod options;
 mod price_lines;
 mod priced;
 mod refusal;
 mod shortening;
 mod solver;
+mod solving;
+mod summary;
 #[cfg(test)]
 mod tests;
 mod top;

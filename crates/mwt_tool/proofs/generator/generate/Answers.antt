@@ -1,6 +1,5 @@
-use Rattle.std.proofs.Common.{◌≡◌, ◌∙◌, ◌+◌, arith, ℕ, ap, codes, length, map, string_bytes, subst}
+use Rattle.std.proofs.Common.{◌≡◌, ◌∙◌, ◌+◌, arith, ℕ, ap, codes, length, string_bytes, subst}
 use Rattle.std.proofs.lemmas.List.{length-append}
-use Rattle.std.specs.List.{range_with_len}
 use Rattle.cert_text.specs.Texts.{Grows}
 use Rattle.mwt_tool.specs.Makes.{node_lines}
 use Rattle.mwt_tool.proofs.Made.{made_is, node_more}

@@ -1,4 +1,4 @@
-use Rattle.std.proofs.Common.{◌≡◌, ◌+◌, ◌*◌, ◌≤◌, length, string_bytes, map}
+use Rattle.std.proofs.Common.{◌+◌, ◌*◌, ◌≤◌, length, string_bytes, map}
 use Rattle.std.specs.List.{range_with_len}
 use Rattle.cert_text.specs.Texts.{Grows}
 use Rattle.mwt_tool.specs.Makes.{node_line}

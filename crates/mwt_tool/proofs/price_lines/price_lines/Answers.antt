@@ -1,4 +1,4 @@
-use Rattle.std.proofs.Common.{◌≡◌, ◌+◌, ◌<◌, ◌≤◌, ◌∷◌, Bool, true, false, [], List, get_or, length, arith, ap, sym, ◌∙◌, subst}
+use Rattle.std.proofs.Common.{◌+◌, ◌<◌, ◌≤◌, Bool, false, List, get_or, length, arith, ap, sym, ◌∙◌, subst}
 use Rattle.std.proofs.lemmas.List.{length-map}
 use Rattle.cert_text.specs.declared.report.PriceLine.{PriceLine}
 use Rattle.price_ascent.specs.declared.entry.Entry.{Entry}

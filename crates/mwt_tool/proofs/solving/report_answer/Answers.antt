@@ -1,6 +1,6 @@
 use Rattle.std.proofs.Common.{refl}
 use Rattle.mwt_tool.specs.Solves.{solved}
-use Rattle.mwt_tool.proofs.answer.report_answer.Goals as goal
+use Rattle.mwt_tool.proofs.solving.report_answer.Goals as goal
 
 pub returns-in_ok-text-in-Ok-clause-reports : goal.returns-in_ok-text-in-Ok-clause-reports
 returns-in_ok-text-in-Ok-clause-reports g c =
