@@ -1,7 +1,7 @@
--- The text of a report has less than 2^32 bytes.
+-- The text of a report is within the limit on input.
 use Rattle.std.proofs.Common.{◌≡◌, ◌⊎◌, ℕ, ℤ, pos, ◌+◌, ◌*◌, ◌^◌, ◌<◌, ◌≤◌, List, [], ◌∷◌, ◌++◌, length, inl, inr, arith, decimal, codes}
 use Rattle.std.specs.Prelude.{unsigned_abs}
-use Rattle.mwt_base.specs.Limits.{most_amount, most_coordinate, most_edges, most_length, most_points, most_tiles, most_unit}
+use Rattle.mwt_base.specs.Limits.{most_amount, most_bytes, most_coordinate, most_edges, most_length, most_points, most_tiles, most_unit}
 use Rattle.exact_predicates.specs.declared.diamond.Diamond.{Diamond}
 use Rattle.exact_predicates.specs.declared.diamond.Diamond.TheVariants.{On, Off}
 use Rattle.exact_predicates.specs.declared.edge.Edge.{Edge}
@@ -35,7 +35,7 @@ hull_short points few u h = let l = number_short u (omega arith) in omega (arith
 edge_width : (points : ℕ) → points < 2 ^ 32 → (e : Edge) → IsEdgeRow points e → (length (decimal e.a) ≤ 10) × (length (decimal e.b) ≤ 10)
 edge_width points few e h = let rises = e.ascending in (number_short e.a (omega arith), number_short e.b (omega arith))
 
-edge_short : (points : ℕ) → points < 2 ^ 32 → (e : Edge) → IsEdgeRow points e → width (edge_fields e) ≤ 120
+edge_short : (points : ℕ) → points < 2 ^ 32 → (e : Edge) → IsEdgeRow points e → width (edge_fields e) ≤ 22
 edge_short points few e h = let w = edge_width points few e h in let a = w.0 in let b = w.1 in omega (arith, a, b)
 
 tri_short : (points : ℕ) → points < 2 ^ 32 → (t : Tri) → IsTriRow points t → width (tri_fields t) ≤ 120
@@ -90,7 +90,7 @@ none_short : AreShort [] 0
 none_short = record { is = omega arith }
 
 more_short : {lines : List (List ℕ)} {count : ℕ} (fs : List (List ℕ)) → width fs ≤ 120 → AreShort lines count → AreShort (spaced fs ∷ lines) (count + 1)
-more_short {lines = lines} {count = count} fs h others = record { is = first_short fs lines count h others.is }
+more_short {lines = lines} {count = count} fs h others = let first = first_short fs lines (121 * count) h others.is in record { is = omega (arith, first) }
 
 head_short : (r : Report) → IsWithin r → AreShort (head_lines r) (0 + 1 + 1 + 1 + 1)
 head_short r is =
@@ -127,15 +127,15 @@ tail_short r is =
 
 -- the sum of the parts
 sum_short : (all head points hull candidates live skeleton tris tail p u l s t : ℕ) → all ≡ head + ((points + (hull + candidates)) + ((live + (skeleton + tris)) + tail))
-    → head ≤ 121 * 4 → points ≤ 121 * (p + 1) → hull ≤ 121 * (u + 1) → candidates ≤ 121 * 1 → live ≤ 121 * (l + 1) → skeleton ≤ 121 * (s + 1) → tris ≤ 121 * (t + 1) → tail ≤ 121 * 5
-    → p ≤ most_points → u ≤ most_points → l ≤ most_edges → s ≤ most_edges → t ≤ most_tiles → all < 2 ^ 32
+    → head ≤ 121 * 4 → points ≤ 121 + 121 * p → hull ≤ 121 + 121 * u → candidates ≤ 121 * 1 → live ≤ 121 + 121 * l → skeleton ≤ 121 + 23 * s → tris ≤ 121 + 121 * t → tail ≤ 121 * 5
+    → p ≤ most_points → u ≤ most_points → l ≤ most_edges → s ≤ most_edges → t ≤ most_tiles → all ≤ most_bytes
 sum_short all head points hull candidates live skeleton tris tail p u l s t e h1 h2 h3 h4 h5 h6 h7 h8 hp hu hl hs ht = omega arith
 
 counts_low : (p u l s t c : ℕ) → p < most_points + 1 → u < p + 1 → l ≤ most_edges → s ≤ most_edges → t ≤ most_tiles → c ≤ most_edges
     → (p < 2 ^ 32) × (u < 2 ^ 32) × (l < 2 ^ 32) × (s < 2 ^ 32) × (t < 2 ^ 32) × (c < 2 ^ 32) × (p ≤ most_points) × (u ≤ most_points)
 counts_low p u l s t c hp hu hl hs ht hc = (omega arith, omega arith, omega arith, omega arith, omega arith, omega arith, omega arith, omega arith)
 
-pub report_short : (r : Report) → IsWithin r → length (report_text r) < 2 ^ 32
+pub report_short : (r : Report) → IsWithin r → length (report_text r) ≤ most_bytes
 unfolding report_lines
 report_short r is =
     let few = counts_low (length r.points) (length r.hull) (length r.live) (length r.skeleton) (length r.tris) r.candidates
@@ -149,12 +149,12 @@ report_short r is =
     let text = parts (head_lines r) points hull candidates live skeleton tris (tail_lines r) in
     sum_short _ _ _ _ _ _ _ _ _ (length r.points) (length r.hull) (length r.live) (length r.skeleton) (length r.tris) text
     (head_short r is).is
-    (block_short (codes "points") point_fields IsPointRow (omega arith) point_short r.points few.0 is.points)
-    (block_short (codes "hull") hull_fields (IsHullRow (length r.points)) (omega arith) (hull_short (length r.points) few.0) r.hull few.1 is.hull)
+    (block_short (codes "points") point_fields IsPointRow 120 (omega arith) point_short r.points few.0 is.points)
+    (block_short (codes "hull") hull_fields (IsHullRow (length r.points)) 120 (omega arith) (hull_short (length r.points) few.0) r.hull few.1 is.hull)
     (more_short (codes "candidates" ∷ decimal r.candidates ∷ []) (count_short (codes "candidates") r.candidates (omega arith) few.5) none_short).is
-    (block_short (codes "live") live_fields (IsLiveRow r.version (length r.points)) (omega arith) (live_short r.version (length r.points) few.0) r.live few.2 is.live)
-    (block_short (codes "skeleton") edge_fields (IsEdgeRow (length r.points)) (omega arith) (edge_short (length r.points) few.0) r.skeleton few.3 is.skeleton)
-    (block_short (codes "triangles") tri_fields (IsTriRow (length r.points)) (omega arith) (tri_short (length r.points) few.0) r.tris few.4 is.tris)
+    (block_short (codes "live") live_fields (IsLiveRow r.version (length r.points)) 120 (omega arith) (live_short r.version (length r.points) few.0) r.live few.2 is.live)
+    (block_short (codes "skeleton") edge_fields (IsEdgeRow (length r.points)) 22 (omega arith) (edge_short (length r.points) few.0) r.skeleton few.3 is.skeleton)
+    (block_short (codes "triangles") tri_fields (IsTriRow (length r.points)) 120 (omega arith) (tri_short (length r.points) few.0) r.tris few.4 is.tris)
     (tail_short r is).is
     few.6 few.7 is.live_count is.skeleton_count is.tris_count where
       parts : (h p u c l s t z : List (List ℕ))

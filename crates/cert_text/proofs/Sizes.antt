@@ -38,13 +38,13 @@ pub amount_short : (n : ℤ) → unsigned_abs n ≤ most_amount → length (amou
 amount_short (pos n) h = let l = size_short n h in omega arith
 amount_short (negsuc n) h = let l = size_short (suc n) h in omega arith
 
--- the lines of rows, each of at most 120 bytes
-rows_short : {X : Type 0} (spell : X → List (List ℕ)) (In : X → Type 0) → ((x : X) → In x → width (spell x) ≤ 120) → (xs : List X) → All In xs
-    → length (lines_text (row_lines spell xs)) ≤ 121 * length xs
-rows_short spell In short [] all = omega arith
-rows_short spell In short (x ∷ xs) all =
+-- the lines of rows, each of at most w bytes
+rows_short : {X : Type 0} (spell : X → List (List ℕ)) (In : X → Type 0) (w : ℕ) → ((x : X) → In x → width (spell x) ≤ w) → (xs : List X) → All In xs
+    → length (lines_text (row_lines spell xs)) ≤ (w + 1) * length xs
+rows_short spell In w short [] all = omega arith
+rows_short spell In w short (x ∷ xs) all =
     let first = short x (all 0 x (omega arith)) in
-    let others = rows_short spell In short xs (λ k d inside. all (suc k) d (omega arith)) in
+    let others = rows_short spell In w short xs (λ k d inside. all (suc k) d (omega arith)) in
     let text = spaced_short (spell x) in
     let cons : length (lines_text (row_lines spell (x ∷ xs))) ≡ length (line (spaced (spell x)) ++ lines_text (row_lines spell xs)) =
     ap length (flat_map-cons line (spaced (spell x)) (row_lines spell xs)) in
@@ -54,14 +54,14 @@ pub text_length : (xs ys : List (List ℕ)) → length (lines_text (xs ++ ys)) �
 text_length xs ys = ap length (flat_map-append line xs ys) ∙ length-append (lines_text xs) (lines_text ys)
 
 -- a line of at most 120 bytes before other lines
-pub first_short : (fs : List (List ℕ)) (ls : List (List ℕ)) (m : ℕ) → width fs ≤ 120 → length (lines_text ls) ≤ 121 * m → length (lines_text (spaced fs ∷ ls)) ≤ 121 * (m + 1)
+pub first_short : (fs : List (List ℕ)) (ls : List (List ℕ)) (m : ℕ) → width fs ≤ 120 → length (lines_text ls) ≤ m → length (lines_text (spaced fs ∷ ls)) ≤ 121 + m
 first_short fs ls m h others =
     let text = spaced_short fs in
     let cons : length (lines_text (spaced fs ∷ ls)) ≡ length (line (spaced fs) ++ lines_text ls) = ap length (flat_map-cons line (spaced fs) ls) in
     omega (arith, h, others, text, cons, length-append (line (spaced fs)) (lines_text ls), length-append (spaced fs) (10 ∷ []))
 
-pub block_short : {X : Type 0} (word : List ℕ) (spell : X → List (List ℕ)) (In : X → Type 0) → length word ≤ 20 → ((x : X) → In x → width (spell x) ≤ 120)
-    → (xs : List X) → length xs < 2 ^ 32 → All In xs → length (lines_text (block word spell xs)) ≤ 121 * (length xs + 1)
-block_short word spell In few short xs count all =
+pub block_short : {X : Type 0} (word : List ℕ) (spell : X → List (List ℕ)) (In : X → Type 0) (w : ℕ) → length word ≤ 20 → ((x : X) → In x → width (spell x) ≤ w)
+    → (xs : List X) → length xs < 2 ^ 32 → All In xs → length (lines_text (block word spell xs)) ≤ 121 + (w + 1) * length xs
+block_short word spell In w few short xs count all =
     let n = number_short (length xs) count in
-    first_short (word ∷ decimal (length xs) ∷ []) (row_lines spell xs) (length xs) (omega arith) (rows_short spell In short xs all)
+    first_short (word ∷ decimal (length xs) ∷ []) (row_lines spell xs) ((w + 1) * length xs) (omega arith) (rows_short spell In w short xs all)
