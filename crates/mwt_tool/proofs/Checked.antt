@@ -1,6 +1,7 @@
 -- The mode `check`: the text of a good report is valid, and so is what `solve` writes.
-use Rattle.std.proofs.Common.{subst, ◌≡◌, ℕ, ◌+◌, List, refl, sym, codes, inl, inr}
+use Rattle.std.proofs.Common.{subst, ◌≡◌, ℕ, ◌+◌, ◌≤◌, List, length, refl, sym, codes, inl, inr}
 use Rattle.std.specs.Prelude.{Ok}
+use Rattle.mwt_base.specs.Limits.{most_bytes}
 use Rattle.mwt_base.specs.Line.{line}
 use Rattle.mwt_base.specs.declared.status.Status.{Status}
 use Rattle.mwt_base.specs.declared.status.Status.TheVariants.{Done}
@@ -9,6 +10,7 @@ use Rattle.exact_predicates.specs.declared.point.Point.{Point}
 use Rattle.cert_text.specs.declared.report.Report.{Report}
 use Rattle.cert_text.specs.Texts.{report_text}
 use Rattle.cert_text.specs.Whole.{report_of}
+use Rattle.cert_text.proofs.ReportSizes.{report_short}
 use Rattle.cert_text.proofs.Reports.{whole_found}
 use Rattle.dual_checker.specs.Elimination.{IsWithinLimits}
 use Rattle.dual_checker.specs.GoodReport.{IsGoodReport, parts}
@@ -49,6 +51,10 @@ Checks-valid input status text fine checks =
     by found (read r is text_is decides) =
         let same : fine.report ≡ r = cc (found, is) in
         Decides-valid r status text (subst IsGoodReport same fine.good) (subst (λ (x : Report). IsWithinLimits x.points x.diamond) same fine.within) decides
+
+-- and short enough to be read
+pub valid_short : (input : List ℕ) → IsValidText input → length input ≤ most_bytes
+valid_short input fine = subst (λ (s : List ℕ). length s ≤ most_bytes) (sym fine.text) (report_short fine.report fine.good.within)
 
 -- the text of the report of a file within the limits is that of a good report within the limits
 report_is_valid : (file : File) (settings : Settings) (r : Report) → IsWithinLimits file.points.points settings.diamond

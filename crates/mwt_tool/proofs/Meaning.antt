@@ -1,8 +1,9 @@
 -- From what was read to what is meant: one lemma a row.
-use Rattle.std.proofs.Common.{subst, ◌≡◌, ◌⊎◌, ℕ, ◌<◌, ◌≤◌, List, [], ◌++◌, length, refl, sym, inl, inr, arith, length-append}
+use Rattle.std.proofs.Common.{subst, ◌≡◌, ◌⊎◌, ℕ, ◌<◌, ◌≤◌, List, [], ◌++◌, length, refl, sym, inl, inr, arith, codes, length-append}
 use Rattle.std.specs.Prelude.{None, Some}
 use Rattle.std.specs.declared.option.Option.{Option}
 use Rattle.mwt_base.specs.Limits.{most_bytes}
+use Rattle.mwt_base.specs.Line.{line}
 use Rattle.mwt_base.specs.Told.{IsTold, ReadToEnd, TookMore}
 use Rattle.mwt_base.specs.declared.status.Status.{Status}
 use Rattle.mwt_base.specs.declared.status.Status.TheVariants.{Done}
@@ -12,6 +13,7 @@ use Rattle.mwt_tool.specs.declared.refusal.Refusal.TheVariants.{Usage, TooLong}
 use Rattle.mwt_tool.specs.declared.solver.Settings.{Settings}
 use Rattle.mwt_tool.specs.declared.words.Mode.{Mode}
 use Rattle.mwt_tool.specs.declared.words.Mode.TheVariants.{Check, Make, Solve, Trial}
+use Rattle.mwt_tool.specs.Checks.{IsValidText}
 use Rattle.mwt_tool.specs.Intends.{Intends, ReadsInput, usage, too_long, answered}
 use Rattle.mwt_tool.specs.Modes.{Accepts, Answers, Reads}
 use Rattle.mwt_tool.specs.Refusal.{Refuses}
@@ -21,7 +23,7 @@ use Rattle.mwt_tool.specs.Makes.{made_text}
 use Rattle.mwt_tool.specs.declared.solving.Form.{Form}
 use Rattle.mwt_tool.specs.declared.solving.Form.TheVariants.{Whole, Summary}
 use Rattle.mwt_tool.specs.Solves.{IsSolvable, ReportsAs, SolvesAs, refused, accepted, dense_edges, dense_triangles, solved}
-use Rattle.mwt_tool.proofs.Checked.{Checks-valid}
+use Rattle.mwt_tool.proofs.Checked.{Checks-valid, valid_short}
 
 pub asked-reads : (words : List (List ℕ)) (mode : Mode) → AskFor mode words → Reads mode → ReadsInput words
 asked-reads words mode asked reads = record { mode = mode; asked = asked; reads = reads }
@@ -122,18 +124,25 @@ SolvesAs-done form settings input status text fine (accepted file of reports) = 
 
 -- an input that a mode accepts is answered with Done
 Answers-done : (mode : Mode) (input : List ℕ) (status : Status) (text : List ℕ) → Accepts mode input → Answers mode input status text → status ≡ Done
-Answers-done (Solve settings) input status text fine answers = SolvesAs-done Whole settings input status text fine answers
+Answers-done (Solve settings) input status text fine answers = SolvesAs-done Whole settings input status text fine.1 answers
 Answers-done Check input status text fine answers = (Checks-valid input status text fine answers).0
 Answers-done (Make making) input status text fine answers = answers.0
 Answers-done (Trial settings making) input status text fine answers = SolvesAs-done Summary settings (made_text making.seed making.points) status text fine answers
 
+-- an input that a mode reads and accepts is within the limit
+Accepts-short : (mode : Mode) (input : List ℕ) → Reads mode → Accepts mode input → length input ≤ most_bytes
+Accepts-short (Solve settings) input reads fine = fine.0
+Accepts-short Check input reads fine = valid_short input fine
+Accepts-short (Make making) input reads fine = absurd reads
+Accepts-short (Trial settings making) input reads fine = absurd reads
+
 Intends-done : (words : List (List ℕ)) (input : List ℕ) (mode : Mode) (status : Status) (text : List ℕ) → AskFor mode words
-    → (Reads mode → length input ≤ most_bytes) → Accepts mode input → Intends words input status text → status ≡ Done
-Intends-done words input mode status text asked short fine (usage away says) = absurd (away mode asked)
-Intends-done words input mode status text asked short fine (too_long same far says) =
-    let few = short (subst Reads (one_mode words same.mode mode same.asked asked) same.reads) in
-    absurd (omega (arith, few, far))
-Intends-done words input mode status text asked short fine (answered other asked' short' answers) =
+    → Accepts mode input → Intends words input status text → status ≡ Done
+Intends-done words input mode status text asked fine (usage away says) = absurd (away mode asked)
+Intends-done words input mode status text asked fine (too_long same far says) =
+    let short = Accepts-short mode input (subst Reads (one_mode words same.mode mode same.asked asked) same.reads) fine in
+    absurd (omega (arith, short, far))
+Intends-done words input mode status text asked fine (answered other asked' short answers) =
     Answers-done other input status text (subst (λ (m : Mode). Accepts m input) (one_mode words mode other asked asked') fine) answers
 
 pub Means-done : (words : List (List ℕ)) (had : Option (List ℕ)) (status : Status) (text : List ℕ) → IsAcceptedInput words had → Means words had status text → status ≡ Done
@@ -144,6 +153,14 @@ Means-done words had status text has means = of (reads_or_not has.mode) had has.
     of (inl reads) (Some xs) told is =
         let same : has.input ≡ means.input = let e : Some xs ≡ Some has.input = told reads in cc (e, is) in
         let P : List ℕ → Type 0 = λ s. Intends words s status text in
-        Intends-done words has.input has.mode status text has.asked has.within has.accepted (subst P (sym same) means.intended)
+        Intends-done words has.input has.mode status text has.asked has.accepted (subst P (sym same) means.intended)
     of (inr never) had told is =
-        Intends-done words means.input has.mode status text has.asked (λ reads. absurd (never reads)) (Accepts-unread has.mode has.input means.input never has.accepted) means.intended
+        Intends-done words means.input has.mode status text has.asked (Accepts-unread has.mode has.input means.input never has.accepted) means.intended
+
+-- with words that ask for `check`, the text of a good report is answered with Done and `valid`
+pub Intends-valid : (words : List (List ℕ)) (input : List ℕ) (status : Status) (text : List ℕ) → AskFor Check words → IsValidText input
+    → Intends words input status text → (status ≡ Done) × (text ≡ line (codes "valid"))
+Intends-valid words input status text asked fine (usage away says) = absurd (away Check asked)
+Intends-valid words input status text asked fine (too_long reads far says) = let short = valid_short input fine in absurd (omega (arith, short, far))
+Intends-valid words input status text asked fine (answered mode asked' short answers) =
+    Checks-valid input status text fine (subst (λ (m : Mode). Answers m input status text) (one_mode words mode Check asked' asked) answers)

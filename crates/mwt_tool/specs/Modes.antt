@@ -1,6 +1,7 @@
 -- The table of modes: whether each reads the source, which inputs it accepts, and what it means to write for an input.
 -- Everything else says what it says for any mode.
-use Rattle.std.specs.Prelude.{◌≡◌, ⊤, List, ℕ}
+use Rattle.std.specs.Prelude.{◌≡◌, ◌≤◌, ⊤, List, ℕ, length}
+use Rattle.mwt_base.specs.Limits.{most_bytes}
 use Rattle.mwt_base.specs.declared.status.Status.{Status}
 use Rattle.mwt_base.specs.declared.status.Status.TheVariants.{Done}
 use Rattle.mwt_tool.specs.declared.words.Mode.{Mode}
@@ -18,7 +19,7 @@ Reads (Trial settings making) = ⊥
 
 -- the mode accepts the input: where no fault comes and memory is there, it is answered with Done
 abbrev pub Accepts : Mode → List ℕ → Type 0
-Accepts (Solve settings) input = IsSolvable settings input
+Accepts (Solve settings) input = (length input ≤ most_bytes) × IsSolvable settings input
 Accepts Check input = IsValidText input
 Accepts (Make making) input = ⊤
 Accepts (Trial settings making) input = IsSolvable settings (made_text making.seed making.points)

@@ -1,7 +1,6 @@
 -- What a call read and wrote, beside its answer.
 use Rattle.std.specs.Prelude.{◌≡◌, ℕ, ◌<◌, ◌≤◌, List, [], length, ⊤, Some}
 use Rattle.std.specs.declared.option.Option.{Option}
-use Rattle.mwt_base.specs.Limits.{most_bytes}
 use Rattle.mwt_base.specs.Told.{IsTold, Grows, GrowsByPrefix, TookMore}
 use Rattle.mwt_base.specs.declared.status.Status.{Status}
 use Rattle.mwt_base.specs.declared.status.Status.TheVariants.{Done, Broken, Refused, ReadFault, WriteFault, NoMemory}
@@ -49,5 +48,4 @@ pub record IsAcceptedInput (words : List (List ℕ)) (had : Option (List ℕ)) :
   pub asked : AskFor mode words
   pub input : List ℕ
   pub told : Reads mode → had ≡ Some input
-  pub within : Reads mode → length input ≤ most_bytes
   pub accepted : Accepts mode input
