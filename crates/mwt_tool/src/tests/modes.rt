@@ -2,8 +2,8 @@
 // mode are among the cases of `mwt_cases`.
 
 use crate::run;
-use crate::tests::{Run, bytes_of, words_of};
-use mwt_base::{MemSink, MemSource, OpenGate, Status, SureSink, SureSource, read_whole};
+use crate::tests::{Run, bytes_of, plain_file, words_of};
+use mwt_base::{MeetGate, MemSink, MemSource, OpenGate, Status, SureSink, SureSource, read_whole};
 use std::alloc::Global;
 use std::test::Fail;
 
@@ -51,6 +51,21 @@ fn make_over_faults(rt: HostRuntime) -> Result<(), Fail> {
     let status = run(&rt, alloc, &words, &mut source, &mut sink, &OpenGate);
     assert_eq!(rt; status, Status::WriteFault);
     assert_eq!(rt; sink.bytes(), b"NAME : mwt-7-3\nT".as_slice());
+    Ok(())
+}
+
+// The two workers that the words ask for run at the same time.
+#[test]
+fn two_workers_meet_in_solve(rt: HostRuntime) -> Result<(), Fail> {
+    let alloc = rt.alloc();
+    let words = words_of(alloc, &["solve", "--diamond", "off", "--workers", "2"])?;
+    let file = plain_file(alloc, &[(0, 0), (2, -2), (7, -3), (10, 0), (5, 1)])?;
+    let mut source = SureSource::new(bytes_of(file)?, 64);
+    let mut sink = SureSink::new(alloc, 4096).map_err(|_| Fail::from("no memory"))?;
+    let gate = MeetGate::new();
+    let status = run(&rt, alloc, &words, &mut source, &mut sink, &gate);
+    assert_eq!(rt; status, Status::Done);
+    assert_eq!(rt; gate.misses(), 0);
     Ok(())
 }
 
