@@ -13,11 +13,20 @@ use std::test::Fail;
 use std::thread::Threads;
 use steal_workers::{Dealing, settle_all};
 
-// Counts how often each of the workers 0 to 7 begins and ends, a byte for each.
+/// Counts how often each of the workers 0 to 7 begins and ends, a byte for each.
 #[derive(Drop)]
-struct CountGate {
-    begun: AtomicU64,
-    ended: AtomicU64,
+pub struct CountGate {
+    pub begun: AtomicU64,
+    pub ended: AtomicU64,
+}
+
+impl CountGate {
+    pub fn new() -> CountGate {
+        CountGate {
+            begun: AtomicU64::new(0),
+            ended: AtomicU64::new(0),
+        }
+    }
 }
 
 impl Gate for CountGate {
@@ -101,10 +110,7 @@ fn two_workers_meet(rt: HostRuntime) -> Result<(), Fail> {
 fn each_worker_begins_and_ends_once(rt: HostRuntime) -> Result<(), Fail> {
     let alloc = rt.alloc();
     let five = eliminated_at(&rt, alloc, &FIVE)?.net;
-    let gate = CountGate {
-        begun: AtomicU64::new(0),
-        ended: AtomicU64::new(0),
-    };
+    let gate = CountGate::new();
     dead_by(&rt, alloc, &five, 4, Dealing::Stripes, &gate)?;
     assert_eq!(rt; gate.begun.load(Ordering::SeqCst), 0x0101_0101);
     assert_eq!(rt; gate.ended.load(Ordering::SeqCst), 0x0101_0101);
