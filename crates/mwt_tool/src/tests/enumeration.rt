@@ -124,8 +124,8 @@ impl Found {
     }
 }
 
-// The edges with no point between, one by one.
-fn edges_by_definition(alloc: Global, points: &Points) -> Result<Vec<Edge>, Fail> {
+/// The edges with no point between, one by one.
+pub fn edges_by_definition(alloc: Global, points: &Points) -> Result<Vec<Edge>, Fail> {
     let mut edges = Vec::new(alloc);
     for a in 0..points.len() {
         for b in a.saturating_add(1)..points.len() {
@@ -150,8 +150,12 @@ fn has_edge(edges: &[Edge], u: u32, v: u32) -> bool {
         .any(|e| (e.a == u && e.b == v) || (e.a == v && e.b == u))
 }
 
-// The empty triangles with three of these sides, one by one.
-fn tris_by_definition(alloc: Global, points: &Points, edges: &[Edge]) -> Result<Vec<Tri>, Fail> {
+/// The empty triangles with three of these sides, one by one.
+pub fn tris_by_definition(
+    alloc: Global,
+    points: &Points,
+    edges: &[Edge],
+) -> Result<Vec<Tri>, Fail> {
     let mut tris = Vec::new(alloc);
     for a in 0..points.len() {
         for b in 0..points.len() {
