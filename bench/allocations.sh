@@ -54,4 +54,6 @@ done
 for input in "$top"/examples/*.report; do
     try_run "$input" check
 done
+try_run /dev/null make --points 20
+try_run /dev/null trial --points 20
 [ "$faults" = 0 ]
