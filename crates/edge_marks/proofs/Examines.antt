@@ -1,12 +1,11 @@
 -- What the loads of `examine` say of sides, triangles and pairs.
-use Rattle.std.proofs.Common.{◌≡◌, ◌≢◌, ◌⊎◌, ℕ, ◌+◌, ◌<◌, ◌≤◌, List, [], ◌++◌, length, get_or, Any, Contains, sym, ◌∙◌, subst, inl, inr, ⊎_elim, arith}
+use Rattle.std.proofs.Common.{◌≡◌, ◌≢◌, ◌⊎◌, ℕ, ◌+◌, ◌<◌, ◌≤◌, List, ◌++◌, length, get_or, Any, Contains, sym, ◌∙◌, subst, inl, inr, ⊎_elim, arith}
 use Rattle.std.proofs.lemmas.List.{get_or_default}
 use Rattle.std.proofs.lemmas.List.Elements.{Contains-append_cases}
 use mathlib.Core.Logic.{dite}
 use native.Mathlib.Decide.{ℕ_discrete}
 use Rattle.lmt_network.specs.Network.{NetworkParts, tri_at}
 use Rattle.lmt_network.specs.Numbers.{IsMinimalPair, IsNumberOf, IsOnLeft, IsOnRight, IsSideOf, IsOtherSide, IsBroken}
-use Rattle.lmt_network.proofs.Picked.{Contains-nil}
 use Rattle.edge_marks.specs.declared.view.Known.{Known}
 use Rattle.edge_marks.specs.declared.answer.Found.{Found}
 use Rattle.edge_marks.specs.declared.answer.Found.TheVariants.{Supported, Unsupported}
@@ -25,9 +24,6 @@ side_at m n same t sides ab bc ca k low = let P : ℕ → Type 0 = λ i. IsSideO
 -- a loop over a list has come to its member x
 at_member : (xs : List ℕ) (x : ℕ) → Contains xs x → (k : ℕ) × (k < length xs) × (get_or xs k 0 ≡ x)
 at_member xs x (k, k_in, is) = (k, k_in, get_or_default xs k 0 x k_in ∙ is)
-
-pub ask_none : (n : NetworkParts) (e t : ℕ) → AskForSidesOf n e t []
-ask_none n e t l h = absurd (Contains-nil l h)
 
 pub ask_of_side : (n : NetworkParts) (e t f : ℕ) (ls : List Asked) → IsSideOf n t f → ((l : Asked) → Contains ls l → (l.edge ≡ f) × (f ≢ e)) → AskForSidesOf n e t ls
 ask_of_side n e t f ls side only l h = let o = only l h in subst (λ (g : ℕ). (g ≢ e) × IsSideOf n t g) (sym o.0) (o.1, side)

@@ -30,7 +30,7 @@ fn blank_rows(alloc: Global, count: usize, len: usize) -> Result<Vec<Vec<u64>>, 
 
 impl Marks {
     /// The marks of the network, with each edge live, and the first of at most `seats` seats, from 1 to 65.
-    /// Takes all the memory that the marks and the seats will need.
+    /// Takes all the memory that the marks and the seats will need, but for what `keep_supports` takes.
     pub fn open(alloc: Global, net: &Network, seats: u32) -> Result<(Marks, Seat), NoMemory>
         requires some { 0 < seats }
         requires few { seats ≤ most_seats }

@@ -32,10 +32,6 @@ asked-reads words mode asked reads = record { mode = mode; asked = asked; reads 
 one_mode : (words : List (List ℕ)) (m n : Mode) → AskFor m words → AskFor n words → m ≡ n
 one_mode words m n a b = let x = a.means in let y = b.means in cc (x, y)
 
--- words that ask for a mode which does not read ask for none that does
-pub not_asked-reads : (words : List (List ℕ)) (mode : Mode) → AskFor mode words → ¬ Reads mode → ¬ ReadsInput words
-not_asked-reads words mode asked never reads = never (subst Reads (one_mode words reads.mode mode reads.asked asked) reads.reads)
-
 reads_or_not : (mode : Mode) → Reads mode ⊎ (¬ Reads mode)
 reads_or_not (Solve settings) = inl tt
 reads_or_not Check = inl tt
