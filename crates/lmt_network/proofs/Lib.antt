@@ -6,6 +6,7 @@ pub mod CandidateEdges
 pub mod CountedSums
 pub mod Descent
 pub mod EdgeLists
+pub mod EdgeStarts
 pub mod Entries
 pub mod Facing
 pub mod Fans

@@ -2,7 +2,7 @@
 use Rattle.std.specs.Prelude.{◌≡◌, ◌*◌, length, map}
 use Rattle.lmt_network.specs.declared.network.Network.TheInside.{Inside}
 use Rattle.lmt_network.specs.Network.{NetworkParts, IsNetwork}
-use Rattle.lmt_network.specs.Tables.{AreHullFlags, edge_weight, AreSideKeys, AreStarts, AreRows}
+use Rattle.lmt_network.specs.Tables.{AreEdgeStarts, AreHullFlags, edge_weight, AreSideKeys, AreStarts, AreRows}
 
 -- the parts of the network
 abbrev pub parts_of : Inside → NetworkParts
@@ -11,6 +11,7 @@ parts_of i = record { points = i.points.items; hull = i.hull.items; edges = i.ed
 -- the tables are those of the parts
 pub record IsSound (i : Inside) : Type 0 where
   pub network : IsNetwork (parts_of i)
+  pub edge_starts : AreEdgeStarts i.edges i.edge_starts.items
   pub flags : AreHullFlags i.hull.items i.edges i.on_hull.items
   pub weights : i.weights.items ≡ map (edge_weight i.points.items) i.edges
   pub keys : AreSideKeys i.edges i.tris i.keys.items

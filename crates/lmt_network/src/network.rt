@@ -11,10 +11,10 @@ ghost use Rattle.lmt_network.specs.Network.{NetworkParts, IsNetwork, edge_at, tr
 ghost use Rattle.lmt_network.specs.Numbers.{IsHullNumber, IsOnLeft, IsOnRight, IsMinimalPair, IsNumberOf, IsSideOf, HasSide};
 ghost use Rattle.exact_predicates.specs.Triangulation.{HasCorners};
 
-use crate::tables::{hull_flags, row, row_starts, rows, side_keys, weights};
-use exact_predicates::{
-    Edge, Edges, Hull, Point, Points, Tri, Tris, d2, place_of_edge, strictly_convex,
+use crate::tables::{
+    edge_starts, find_edge, hull_flags, row, row_starts, rows, side_keys, weights,
 };
+use exact_predicates::{Edge, Edges, Hull, Point, Points, Tri, Tris, d2, strictly_convex};
 use mwt_base::NoMemory;
 use std::alloc::Global;
 use std::marker::Model;
@@ -27,6 +27,8 @@ pub struct Network {
     hull: Vec<u32>,
     edges: Edges,
     tris: Tris,
+    // Where the edges of each lesser end begin in `edges`, and where the last of them end.
+    edge_starts: Vec<u32>,
     // Of each edge, whether it is a hull edge.
     on_hull: Vec<bool>,
     // Of each edge, its length in millionths of the unit, rounded down.
@@ -51,8 +53,8 @@ impl Model for Network {
 }
 
 impl Network {
-    /// The network of the candidate edges and of all empty triangles over these. For n triangles it
-    /// takes time n log n.
+    /// The network of the candidate edges and of all empty triangles over these. Each side of a
+    /// triangle is looked up among the edges that have its lesser end; all else takes linear time.
     pub fn build(
         alloc: Global,
         points: &Points,
@@ -68,8 +70,9 @@ impl Network {
         ensures { IfOk result (λ net. net ≡
             record { points = points.now.points; hull = hull.now; edges = edges; tris = tris }) }
     {
-        let on_hull = hull_flags(alloc, edges.as_slice(), hull.as_slice())?;
-        let keys = side_keys(alloc, edges.as_slice(), tris.as_slice())?;
+        let edge_starts = edge_starts(alloc, edges.as_slice(), points.len())?;
+        let on_hull = hull_flags(alloc, edges.as_slice(), &edge_starts, hull.as_slice())?;
+        let keys = side_keys(alloc, edges.as_slice(), &edge_starts, tris.as_slice())?;
         let starts = row_starts(alloc, &keys, 2 * edges.len())?;
         let rows = rows(alloc, &keys, 2 * edges.len(), &starts)?;
         let points = Vec::from_slice(alloc, points.as_slice())?;
@@ -80,6 +83,7 @@ impl Network {
             hull,
             edges,
             tris,
+            edge_starts,
             on_hull,
             weights,
             keys,
@@ -153,13 +157,7 @@ impl Network {
         ensures some { IfSome result (IsNumberOf self.now u v) }
         ensures none { IsNone result ↔ ¬ HasEdge self.now.edges u v }
     {
-        if u == v {
-            return None;
-        }
-        match place_of_edge(self.edges.as_slice(), u, v) {
-            Some(place) => Some(place as u32),
-            None => None,
-        }
+        find_edge(self.edges.as_slice(), &self.edge_starts, u, v)
     }
 
     /// Whether the edge is an edge of the hull.
