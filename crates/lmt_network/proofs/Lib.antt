@@ -5,6 +5,7 @@ pub mod Builds
 pub mod CandidateEdges
 pub mod CountedSums
 pub mod Descent
+pub mod Due
 pub mod EdgeLists
 pub mod EdgeStarts
 pub mod Entries

@@ -8,17 +8,20 @@ use std::marker::Model;
 /// Which edges of a network are live: one truth value for each edge, by its number.
 #[derive(Drop)]
 pub struct Flags {
-    live: Vec<bool>,
+    pub(crate) live: Vec<bool>,
+    // Of each edge, whether plain elimination is still to try it. It has a meaning only during a call
+    // of `plain_settle`, and stands here so that the call takes no memory.
+    pub(crate) due: Vec<bool>,
 }
 
 impl Model for Flags {
-    ghost use Rattle.std.specs.Prelude.{List, Bool, ◌<◌, ◌^◌, length};
+    ghost use Rattle.std.specs.Prelude.{List, Bool, ◌≡◌, ◌<◌, ◌^◌, length};
 
     ghost Value = { List Bool };
 
     ghost view = { λ f. f.live.items };
 
-    ghost invariant = { λ f. length f.live.items < 2 ^ 32 };
+    ghost invariant = { λ f. (length f.live.items < 2 ^ 32) × (length f.due.items ≡ length f.live.items) };
 }
 
 impl Flags {
@@ -27,7 +30,8 @@ impl Flags {
         ensures { IfOk result (λ flags. flags ≡ replicate edges true) }
     {
         let live = Vec::from_elem(alloc, true, edges as usize)?;
-        Ok(Flags { live })
+        let due = Vec::from_elem(alloc, true, edges as usize)?;
+        Ok(Flags { live, due })
     }
 
     /// How many edges there are, live or not.

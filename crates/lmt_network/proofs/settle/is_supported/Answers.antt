@@ -19,7 +19,7 @@ is_supported_with-requires-clause-on_left c =
 
 pub returns-then-is_supported_with : goal.returns-then-is_supported_with
 returns-then-is_supported_with c = (
-  λ _. support_of_pair c.args.net.now (live_numbers c.args.flags.now) c.args.e _
+  λ _. support_of_pair c.args.net.now (live_numbers c.args.live.now) c.args.e _
       (c.sides_are_live.ensures.0 c.if-sides_are_live.true) (c.is_supported_with.ensures.0 c.if-is_supported_with.true),
   λ _. refl,
 )
@@ -35,13 +35,13 @@ loop-l-preserved c =
 pub returns : goal.returns
 returns c = (
   λ no_way. absurd (false≢true no_way),
-  λ (s : IsSupported c.args.net.now (live_numbers c.args.flags.now) c.args.e).
+  λ (s : IsSupported c.args.net.now (live_numbers c.args.live.now) c.args.e).
       let ls = c.left-l-items.result.now in
-      let sides = sides_of_support c.args.net.now (live_numbers c.args.flags.now) c.args.e (live_from_flag c.args.flags.now c.args.e c.requires.live) s in
+      let sides = sides_of_support c.args.net.now (live_numbers c.args.live.now) c.args.e (live_from_flag c.args.live.now c.args.e c.requires.live) s in
       let (k, k_in, at_k) = (c.left-l-items.ensures.members s.l).1 (s.pair.l_in, (s.pair.a, s.pair.left_is)) in
       let is : s.l ≡ slice_index ls k = sym (get_or_default ls k 0 s.l k_in ∙ at_k) in
-      let with : IsSupportedWith c.args.net.now (live_numbers c.args.flags.now) c.args.e s.l = record { r = s.r; pair = s.pair; sides = sides.1 } in
+      let with : IsSupportedWith c.args.net.now (live_numbers c.args.live.now) c.args.e s.l = record { r = s.r; pair = s.pair; sides = sides.1 } in
       absurd (c.loop-l.invariant k (omega arith)
-      (subst (λ (l : ℕ). (f : ℕ) → IsSideOf c.args.net.now l f → Contains (live_numbers c.args.flags.now) f) is sides.0)
-      (subst (λ (l : ℕ). IsSupportedWith c.args.net.now (live_numbers c.args.flags.now) c.args.e l) is with)),
+      (subst (λ (l : ℕ). (f : ℕ) → IsSideOf c.args.net.now l f → Contains (live_numbers c.args.live.now) f) is sides.0)
+      (subst (λ (l : ℕ). IsSupportedWith c.args.net.now (live_numbers c.args.live.now) c.args.e l) is with)),
 )

@@ -26,11 +26,11 @@ loop-r-preserved c =
 pub returns : goal.returns
 returns c = (
   λ no_way. absurd (false≢true no_way),
-  λ (s : IsSupportedWith c.args.net.now (live_numbers c.args.flags.now) c.args.e c.args.l).
+  λ (s : IsSupportedWith c.args.net.now (live_numbers c.args.live.now) c.args.e c.args.l).
       let rs = c.right-r-items.result.now in
       let (k, k_in, at_k) = (c.right-r-items.ensures.members s.r).1 (s.pair.r_in, (s.pair.b, s.pair.right_is)) in
       let is : s.r ≡ slice_index rs k = sym (get_or_default rs k 0 s.r k_in ∙ at_k) in
       absurd (c.loop-r.invariant k (omega arith)
       (subst (IsMinimalPair c.args.net.now c.args.e c.args.l) is s.pair)
-      (subst (λ (r : ℕ). (f : ℕ) → IsSideOf c.args.net.now r f → Contains (live_numbers c.args.flags.now) f) is s.sides)),
+      (subst (λ (r : ℕ). (f : ℕ) → IsSideOf c.args.net.now r f → Contains (live_numbers c.args.live.now) f) is s.sides)),
 )
