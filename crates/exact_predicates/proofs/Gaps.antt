@@ -27,7 +27,7 @@ d2_le p q h k =
     omega (arith, d2_is p q, mul-le _ _ _ _ (width_le p q h k) (width_le p q h k), mul-le _ _ _ _ (height_le p q h k) (height_le p q h k))
 
 -- the product of two differences of coordinates
-product_le : (a b : ℤ) → unsigned_abs a ≤ 2 * 10 ^ 9 → unsigned_abs b ≤ 2 * 10 ^ 9 → unsigned_abs (a *ℤ b) ≤ 4 * 10 ^ 18
+pub product_le : (a b : ℤ) → unsigned_abs a ≤ 2 * 10 ^ 9 → unsigned_abs b ≤ 2 * 10 ^ 9 → unsigned_abs (a *ℤ b) ≤ 4 * 10 ^ 18
 product_le a b h k = omega (arith, unsigned_abs-mul a b, mul-le _ _ _ _ h k)
 
 pub orient_le : (p q r : Point) → IsInRange p → IsInRange q → IsInRange r → unsigned_abs (orient p q r) ≤ 8 * 10 ^ 18
@@ -49,3 +49,7 @@ dot_le o p q ho hp hq =
   where
     total : (a b : ℤ) → unsigned_abs a ≤ 4 * 10 ^ 18 → unsigned_abs b ≤ 4 * 10 ^ 18 → unsigned_abs (a +ℤ b) ≤ 8 * 10 ^ 18
     total a b h k = omega (arith, ints)
+
+-- a number within the bound of a sum of two such products
+pub kept : (x : ℤ) → unsigned_abs x ≤ 8 * 10 ^ 18 → to_z w64 (of_z w64 x) ≡ x
+kept x h = omega (arith, ints)

@@ -20,6 +20,7 @@ pub use lists::{Edges, Hull, PointList, Tris, next_on_hull, place_of_edge};
 pub use point::{Point, d2, dot, in_range, orient};
 pub use points::{Points, PointsStop};
 pub use relations::{
-    blocks, crosses, in_closed_triangle, in_left_diamond, strictly_between, strictly_convex,
+    blocks, crosses, in_closed_triangle, in_left_diamond, is_below_base_angle, strictly_between,
+    strictly_convex,
 };
 pub use tri::Tri;

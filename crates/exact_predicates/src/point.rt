@@ -24,35 +24,57 @@ pub fn in_range(p: &Point) -> bool
 
 /// Twice the area of the triangle `pqr`: positive where it turns to the left, 0 where the three
 /// points lie on one line.
-#[tactic(auto, unfolding(crate::specs::Plane::orient))]
 pub fn orient(p: &Point, q: &Point, r: &Point) -> i128
     requires p_in { IsInRange p.now }
     requires q_in { IsInRange q.now }
     requires r_in { IsInRange r.now }
     ensures { result ≡ orient p.now q.now r.now }
 {
-    product(q.x - p.x, r.y - p.y) - product(q.y - p.y, r.x - p.x)
+    i128::from(double_area(p, q, r))
 }
 
 /// The inner product of the vectors from `o` to `p` and from `o` to `q`.
-#[tactic(auto, unfolding(crate::specs::Plane::dot))]
 pub fn dot(o: &Point, p: &Point, q: &Point) -> i128
     requires o_in { IsInRange o.now }
     requires p_in { IsInRange p.now }
     requires q_in { IsInRange q.now }
     ensures { result ≡ dot o.now p.now q.now }
 {
+    i128::from(inner_product(o, p, q))
+}
+
+/// What `orient` answers, in 64 bits.
+#[tactic(auto, unfolding(crate::specs::Plane::orient))]
+pub(crate) fn double_area(p: &Point, q: &Point, r: &Point) -> i64
+    requires p_in { IsInRange p.now }
+    requires q_in { IsInRange q.now }
+    requires r_in { IsInRange r.now }
+    ensures value { result ≡ orient p.now q.now r.now }
+    ensures bound { unsigned_abs result ≤ 8 * 10 ^ 18 }
+{
+    product(q.x - p.x, r.y - p.y) - product(q.y - p.y, r.x - p.x)
+}
+
+/// What `dot` answers, in 64 bits.
+#[tactic(auto, unfolding(crate::specs::Plane::dot))]
+pub(crate) fn inner_product(o: &Point, p: &Point, q: &Point) -> i64
+    requires o_in { IsInRange o.now }
+    requires p_in { IsInRange p.now }
+    requires q_in { IsInRange q.now }
+    ensures value { result ≡ dot o.now p.now q.now }
+    ensures bound { unsigned_abs result ≤ 8 * 10 ^ 18 }
+{
     product(p.x - o.x, q.x - o.x) + product(p.y - o.y, q.y - o.y)
 }
 
 // The product of two differences of coordinates.
-fn product(a: i64, b: i64) -> i128
+fn product(a: i64, b: i64) -> i64
     requires a_in { unsigned_abs a ≤ 2 * 10 ^ 9 }
     requires b_in { unsigned_abs b ≤ 2 * 10 ^ 9 }
     ensures value { result ≡ a *ℤ b }
     ensures bound { unsigned_abs result ≤ 4 * 10 ^ 18 }
 {
-    i128::from(a) * i128::from(b)
+    a * b
 }
 
 /// The squared distance, in squares of the scaled unit.

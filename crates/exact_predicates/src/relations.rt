@@ -1,9 +1,9 @@
 // How points lie to segments, triangles and diamonds.
-ghost use Rattle.std.specs.Prelude.{◌↔◌, ◌*◌, ◌^◌, ◌≤◌, ◌<ℤ◌, ◌*ℤ◌, pos, unsigned_abs, IsTrue};
+ghost use Rattle.std.specs.Prelude.{◌↔◌, ◌≤ℤ◌, ◌<ℤ◌, ◌*ℤ◌, pos, IsTrue};
 ghost use Rattle.exact_predicates.specs.Plane.{IsInRange, orient, IsBetween, IsInClosedTriangle, AreApart, Crosses, IsInLeftDiamond};
 ghost use Rattle.exact_predicates.specs.Blocking.{Blocks};
 
-use crate::point::{Point, dot, orient};
+use crate::point::{Point, double_area, inner_product};
 
 /// Whether `r` lies on the segment from `p` to `q` and is neither end.
 pub fn strictly_between(p: &Point, q: &Point, r: &Point) -> bool
@@ -12,7 +12,7 @@ pub fn strictly_between(p: &Point, q: &Point, r: &Point) -> bool
     requires r_in { IsInRange r.now }
     ensures { IsTrue result ↔ IsBetween p.now q.now r.now }
 {
-    orient(p, q, r) == 0 && dot(r, p, q) < 0
+    double_area(p, q, r) == 0 && inner_product(r, p, q) < 0
 }
 
 /// Whether `r` lies in the triangle `abc`, which turns to the left, or on its rim.
@@ -24,7 +24,7 @@ pub fn in_closed_triangle(a: &Point, b: &Point, c: &Point, r: &Point) -> bool
     requires turns_left { pos 0 <ℤ orient a.now b.now c.now }
     ensures { IsTrue result ↔ IsInClosedTriangle a.now b.now c.now r.now }
 {
-    orient(a, b, r) >= 0 && orient(b, c, r) >= 0 && orient(c, a, r) >= 0
+    double_area(a, b, r) >= 0 && double_area(b, c, r) >= 0 && double_area(c, a, r) >= 0
 }
 
 /// Whether the segments from `p` to `q` and from `r` to `s` cross: the ends of each lie strictly on
@@ -47,8 +47,8 @@ fn are_apart(p: &Point, q: &Point, r: &Point, s: &Point) -> bool
     requires s_in { IsInRange s.now }
     ensures { IsTrue result ↔ AreApart p.now q.now r.now s.now }
 {
-    let of_r = orient(p, q, r);
-    let of_s = orient(p, q, s);
+    let of_r = double_area(p, q, r);
+    let of_s = double_area(p, q, s);
     (of_r < 0 && of_s > 0) || (of_r > 0 && of_s < 0)
 }
 
@@ -77,8 +77,10 @@ pub fn in_left_diamond(p: &Point, q: &Point, r: &Point) -> bool
     requires r_in { IsInRange r.now }
     ensures { IsTrue result ↔ IsInLeftDiamond p.now q.now r.now }
 {
-    let turn = orient(p, q, r);
-    turn > 0 && is_below_base_angle(turn, dot(p, q, r)) && is_below_base_angle(turn, dot(q, p, r))
+    let turn = double_area(p, q, r);
+    turn > 0
+        && is_below_base_angle(turn, inner_product(p, q, r))
+        && is_below_base_angle(turn, inner_product(q, p, r))
 }
 
 /// Whether `r` blocks the left side of `p` to `q`: whether it lies in the left diamond or strictly
@@ -89,16 +91,17 @@ pub fn blocks(p: &Point, q: &Point, r: &Point) -> bool
     requires r_in { IsInRange r.now }
     ensures { IsTrue result ↔ Blocks p.now q.now r.now }
 {
-    let sine = orient(p, q, r);
-    sine >= 0 && is_below_base_angle(sine, dot(p, q, r)) && is_below_base_angle(sine, dot(q, p, r))
+    let sine = double_area(p, q, r);
+    sine >= 0
+        && is_below_base_angle(sine, inner_product(p, q, r))
+        && is_below_base_angle(sine, inner_product(q, p, r))
 }
 
-// Whether an angle below a right one, of which these are the sine and the cosine to one scale, has a
-// tangent below 4/5.
-fn is_below_base_angle(sine: i128, cosine: i128) -> bool
-    requires sine_in { unsigned_abs sine ≤ 8 * 10 ^ 18 }
-    requires cosine_in { unsigned_abs cosine ≤ 8 * 10 ^ 18 }
+/// Whether an angle has a tangent below 4/5, by its sine, which is not negative, and its cosine, both to one
+/// scale. Neither five sines nor four cosines need fit into 64 bits.
+pub fn is_below_base_angle(sine: i64, cosine: i64) -> bool
+    requires sine_in { pos 0 ≤ℤ sine }
     ensures { IsTrue result ↔ ((pos 5 *ℤ sine) <ℤ (pos 4 *ℤ cosine)) }
 {
-    5 * sine < 4 * cosine
+    sine < cosine && sine / 4 < cosine - sine
 }
