@@ -53,3 +53,7 @@ dot_le o p q ho hp hq =
 -- a number within the bound of a sum of two such products
 pub kept : (x : ℤ) → unsigned_abs x ≤ 8 * 10 ^ 18 → to_z w64 (of_z w64 x) ≡ x
 kept x h = omega (arith, ints)
+
+-- the product of two differences, on its way through the bits
+pub kept_product : (a b : ℤ) → unsigned_abs a ≤ 2 * 10 ^ 9 → unsigned_abs b ≤ 2 * 10 ^ 9 → to_z w64 (of_z w64 (to_z w64 (of_z w64 a) *ℤ to_z w64 (of_z w64 b))) ≡ a *ℤ b
+kept_product a b h k = rw (kept a (omega (arith, h)), kept b (omega (arith, k))) (kept (a *ℤ b) (omega (arith, product_le a b h k)))

@@ -1,17 +1,15 @@
--- Numbers on their way through the bits of an i64 or an i128, and products of bounded numbers.
-use Rattle.std.proofs.Common.{arith, ◌≡◌, ◌*◌, ◌^◌, ◌≤◌, ℤ, pos, FitsSigned, ◌+ℤ◌, ◌-ℤ◌, ◌*ℤ◌, ◌≤ℤ◌, ◌<ℤ◌, to_z, of_z, unsigned_abs, IsTrue, [], ◌∷◌, refl}
+-- Numbers on their way through the bits of an i64, and products of bounded numbers.
+use Rattle.std.proofs.Common.{arith, ◌≡◌, ◌*◌, ◌^◌, ◌≤◌, ℤ, pos, FitsSigned, ◌+ℤ◌, ◌-ℤ◌, ◌*ℤ◌, ◌≤ℤ◌, ◌<ℤ◌, to_z, of_z, unsigned_abs, w64, IsTrue, [], ◌∷◌, refl}
+use Rattle.std.specs.Int.{int_max}
 use Rattle.std.specs.Int.Signed.{lt_z, le_z}
-use Rattle.std.proofs.lemmas.Int.{ints, unsigned_abs-mul}
+use Rattle.std.proofs.lemmas.Int.{ints, int_max_is, unsigned_abs-mul}
 use Rattle.std.proofs.lemmas.Nat.{mul-le}
+use Rattle.exact_predicates.proofs.Gaps.{kept}
 use Rattle.exact_predicates.proofs.IntSigns.{mul-nonneg}
 use Rattle.exact_predicates.proofs.Ring.{var, num, less, times, ring}
-use mir.Syntax.{w64, w128}
 
-pub kept_sum : (x y : ℤ) → unsigned_abs x ≤ 8 * 10 ^ 19 → unsigned_abs y ≤ 8 * 10 ^ 19 → to_z w128 (of_z w128 (to_z w128 (of_z w128 x) +ℤ to_z w128 (of_z w128 y))) ≡ x +ℤ y
+pub kept_sum : (x y : ℤ) → unsigned_abs x ≤ 4 * 10 ^ 18 → unsigned_abs y ≤ 4 * 10 ^ 18 → to_z w64 (of_z w64 (to_z w64 (of_z w64 x) +ℤ to_z w64 (of_z w64 y))) ≡ x +ℤ y
 kept_sum x y h k = omega (arith, ints)
-
-pub kept : (x : ℤ) → unsigned_abs x ≤ 8 * 10 ^ 19 → to_z w128 (of_z w128 x) ≡ x
-kept x h = omega (arith, ints)
 
 pub distribute : (a b c : ℤ) → a *ℤ (b -ℤ c) ≡ (a *ℤ b) -ℤ (a *ℤ c)
 distribute a b c = ring (a ∷ b ∷ c ∷ []) (times (var 0) (less (var 1) (var 2))) (less (times (var 0) (var 1)) (times (var 0) (var 2))) (omega arith)
@@ -26,22 +24,9 @@ turned a b c = ring (a ∷ b ∷ c ∷ []) (times (less (num (pos 0)) (var 0)) (
 pub mul-le_down : (a b c : ℤ) → a ≤ℤ pos 0 → b ≤ℤ c → (a *ℤ c) ≤ℤ (a *ℤ b)
 mul-le_down a b c h k = omega (arith, ints, turned a c b, mul-nonneg (pos 0 -ℤ a) (c -ℤ b) (omega (arith, ints)) (omega (arith, ints)))
 
--- the least square between two numbers of one sign
-pub square_up : (a x : ℤ) → pos 0 ≤ℤ a → a ≤ℤ x → (a *ℤ a) ≤ℤ (x *ℤ x)
-square_up a x h k = omega (arith, ints, mul-le_up a a x h k, swapped a x, mul-le_up x a x (omega (arith, ints)) k)
-  where
-    swapped : (a x : ℤ) → a *ℤ x ≡ x *ℤ a
-    swapped a x = ring (a ∷ x ∷ []) (times (var 0) (var 1)) (times (var 1) (var 0)) (omega arith)
-
-pub square_down : (a x : ℤ) → a ≤ℤ pos 0 → x ≤ℤ a → (a *ℤ a) ≤ℤ (x *ℤ x)
-square_down a x h k = omega (arith, ints, mul-le_down a x a h k, swapped a x, mul-le_down x x a (omega (arith, ints)) k)
-  where
-    swapped : (a x : ℤ) → a *ℤ x ≡ x *ℤ a
-    swapped a x = ring (a ∷ x ∷ []) (times (var 0) (var 1)) (times (var 1) (var 0)) (omega arith)
-
--- the same for an i64
+-- a number that is smaller still
 pub kept64 : (x : ℤ) → unsigned_abs x ≤ 2 * 10 ^ 10 → to_z w64 (of_z w64 x) ≡ x
-kept64 x h = omega (arith, ints)
+kept64 x h = kept x (omega (arith, h))
 
 pub sum_le : (a b c d : ℤ) → a ≤ℤ c → b ≤ℤ d → (a +ℤ b) ≤ℤ (c +ℤ d)
 sum_le a b c d h k = omega (arith, ints)
@@ -73,9 +58,6 @@ module _ (m x n y : ℤ) (hm : unsigned_abs m ≤ 5) (hx : unsigned_abs x ≤ 2 
   kept_mixed = rw parts (kept64 _ mixed_le)
 
 -- tests
-pub true_lt : (a b : ℤ) → a <ℤ b → IsTrue (lt_z a b)
-true_lt a b h = grind (arith, ints)
-
 pub lt_true : (a b : ℤ) → IsTrue (lt_z a b) → a <ℤ b
 lt_true a b h = grind (arith, ints)
 
@@ -85,12 +67,23 @@ true_le a b h = grind (arith, ints)
 pub le_true : (a b : ℤ) → IsTrue (le_z a b) → a ≤ℤ b
 le_true a b h = grind (arith, ints)
 
--- a number and four times another
-pub fits_more : (x n : ℤ) → unsigned_abs x ≤ 8 * 10 ^ 19 → unsigned_abs n ≤ 8 * 10 ^ 19 → FitsSigned w128 (to_z w128 (of_z w128 x) +ℤ to_z w128 (of_z w128 (pos 4 *ℤ to_z w128 (of_z w128 n))))
-fits_more x n h k = omega (arith, ints)
+-- the greater of a number and 0
+pub max_le : (a m x : ℤ) → m ≡ int_max a (pos 0) → a ≤ℤ x → pos 0 ≤ℤ x → m ≤ℤ x
+max_le a m x e h k = omega (arith, ints, e, int_max_is a (pos 0))
 
-pub kept_more : (x n : ℤ) → unsigned_abs x ≤ 8 * 10 ^ 19 → unsigned_abs n ≤ 8 * 10 ^ 19 → to_z w128 (of_z w128 (to_z w128 (of_z w128 x) +ℤ to_z w128 (of_z w128 (pos 4 *ℤ to_z w128 (of_z w128 n))))) ≡ x +ℤ (pos 4 *ℤ n)
-kept_more x n h k = omega (arith, ints)
+pub le_max : (a m : ℤ) → m ≡ int_max a (pos 0) → a ≤ℤ m
+le_max a m e = omega (arith, ints, e, int_max_is a (pos 0))
+
+pub max_nonneg : (a m : ℤ) → m ≡ int_max a (pos 0) → pos 0 ≤ℤ m
+max_nonneg a m e = omega (arith, ints, e, int_max_is a (pos 0))
+
+pub max_small : (a m : ℤ) → m ≡ int_max a (pos 0) → unsigned_abs a ≤ 8 * 10 ^ 18 → unsigned_abs m ≤ 8 * 10 ^ 18
+max_small a m e h = omega (arith, ints, e, int_max_is a (pos 0))
+
+-- a difference of two such numbers that are not negative
+pub kept_less : (x y : ℤ) → pos 0 ≤ℤ x → unsigned_abs x ≤ 8 * 10 ^ 18 → pos 0 ≤ℤ y → unsigned_abs y ≤ 8 * 10 ^ 18
+    → to_z w64 (of_z w64 (to_z w64 (of_z w64 x) -ℤ to_z w64 (of_z w64 y))) ≡ x -ℤ y
+kept_less x y h k l m = omega (arith, ints)
 
 pub le_through : (a b c : ℤ) → a ≤ℤ b → b ≤ℤ c → a ≤ℤ c
 le_through a b c h k = omega (arith, ints)

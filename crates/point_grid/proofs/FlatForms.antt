@@ -1,50 +1,34 @@
 -- Linear forms behind the conditions of a flat vector.
-use Rattle.std.proofs.Common.{◌≡◌, ℤ, pos, negsuc, ◌+ℤ◌, ◌-ℤ◌, ◌*ℤ◌, ◌≤ℤ◌, ◌<ℤ◌, arith, [], ◌∷◌, refl}
+use Rattle.std.proofs.Common.{◌≡◌, ℤ, pos, ◌+ℤ◌, ◌-ℤ◌, ◌*ℤ◌, ◌≤ℤ◌, ◌<ℤ◌, arith, [], ◌∷◌, refl}
 use Rattle.std.proofs.lemmas.Int.{ints}
 use Rattle.exact_predicates.specs.declared.point.Point.{Point}
 use Rattle.exact_predicates.specs.Blocking.{Blocks}
 use Rattle.exact_predicates.specs.Plane.{orient, dot}
 use Rattle.exact_predicates.proofs.Blocking.{dot_parts}
 use Rattle.exact_predicates.proofs.Orientation.{coordinates, orient_term, orient_swapped, orient_swapped_last}
-use Rattle.exact_predicates.proofs.Ring.{var, num, plus, less, times, ring}
+use Rattle.exact_predicates.proofs.Ring.{var, plus, less, times, ring}
 use Rattle.point_grid.specs.declared.frame.Frame.{Frame}
 use Rattle.point_grid.specs.declared.frame.View.{View}
 use Rattle.point_grid.specs.Flat.{IsFlat}
 use Rattle.point_grid.specs.Frames.{IsInFrame}
 use Rattle.point_grid.specs.Views.{IsInView}
 
--- a linear form, by sines and cosines
-spread : (m u v x y a b : ℤ) → (((m *ℤ x) +ℤ (negsuc 4 *ℤ u)) *ℤ a) +ℤ (((m *ℤ y) +ℤ (negsuc 4 *ℤ v)) *ℤ b) ≡ (m *ℤ ((x *ℤ a) +ℤ (y *ℤ b))) -ℤ (pos 5 *ℤ ((u *ℤ a) +ℤ (v *ℤ b)))
-spread m u v x y a b =
-    ring (m ∷ u ∷ v ∷ x ∷ y ∷ a ∷ b ∷ [])
-    (plus
-    (times (plus (times (var 0) (var 3)) (times (num (negsuc 4)) (var 1))) (var 5))
-    (times (plus (times (var 0) (var 4)) (times (num (negsuc 4)) (var 2))) (var 6)))
-    (less
-    (times (var 0) (plus (times (var 3) (var 5)) (times (var 4) (var 6))))
-    (times (num (pos 5)) (plus (times (var 1) (var 5)) (times (var 2) (var 6)))))
-    (omega arith)
+-- the conditions hold for all sines and cosines between two ends if they hold for the worse ends
+pub flat_from : (s c n most least far near : ℤ) → pos 0 ≤ℤ s → s ≤ℤ most → least ≤ℤ c → c ≤ℤ far → near ≤ℤ n
+    → (pos 5 *ℤ most) <ℤ (pos 4 *ℤ least) → (pos 5 *ℤ most) <ℤ (pos 4 *ℤ (near -ℤ far)) → IsFlat s c n
+flat_from s c n most least far near h hs hl hf hn k l =
+    record { left = h; near = omega (arith, ints); far = omega (arith, ints) }
 
-over : (f s c n most : ℤ) → f ≡ c -ℤ s → f ≤ℤ most → s <ℤ (c +ℤ n) → pos 0 <ℤ (most +ℤ n)
-over f s c n most e l h = omega (arith, ints)
+-- what is flat points forward
+pub forward : (s c n : ℤ) → IsFlat s c n → pos 0 ≤ℤ c
+forward s c n f = omega (arith, ints, f.left, f.near)
 
-under : (f s c n least : ℤ) → f ≡ c -ℤ s → least ≤ℤ f → pos 0 <ℤ (least +ℤ n) → s <ℤ (c +ℤ n)
-under f s c n least e l h = omega (arith, ints)
+-- and for the better ends if they hold for some
+pub near_from : (s c n least most : ℤ) → IsFlat s c n → least ≤ℤ s → c ≤ℤ most → (pos 5 *ℤ least) <ℤ (pos 4 *ℤ most)
+near_from s c n least most f h k = omega (arith, ints, f.near)
 
-pub above_zero : (m u v x y a b n most : ℤ) → ((((m *ℤ x) +ℤ (negsuc 4 *ℤ u)) *ℤ a) +ℤ (((m *ℤ y) +ℤ (negsuc 4 *ℤ v)) *ℤ b)) ≤ℤ most
-    → (pos 5 *ℤ ((u *ℤ a) +ℤ (v *ℤ b))) <ℤ ((m *ℤ ((x *ℤ a) +ℤ (y *ℤ b))) +ℤ (pos 4 *ℤ n)) → pos 0 <ℤ (most +ℤ (pos 4 *ℤ n))
-above_zero m u v x y a b n most l h = over _ _ _ _ most (spread m u v x y a b) l h
-
-pub below_zero : (m u v x y a b n least : ℤ) → least ≤ℤ ((((m *ℤ x) +ℤ (negsuc 4 *ℤ u)) *ℤ a) +ℤ (((m *ℤ y) +ℤ (negsuc 4 *ℤ v)) *ℤ b))
-    → pos 0 <ℤ (least +ℤ (pos 4 *ℤ n)) → (pos 5 *ℤ ((u *ℤ a) +ℤ (v *ℤ b))) <ℤ ((m *ℤ ((x *ℤ a) +ℤ (y *ℤ b))) +ℤ (pos 4 *ℤ n))
-below_zero m u v x y a b n least l h = under _ _ _ _ least (spread m u v x y a b) l h
-
--- the conditions, one by one, as the tests make them
-pub flat_far : (s c n : ℤ) → (pos 5 *ℤ s) <ℤ (pos 4 *ℤ (n -ℤ c)) → (pos 5 *ℤ s) <ℤ ((negsuc 3 *ℤ c) +ℤ (pos 4 *ℤ n))
-flat_far s c n h = omega (arith, ints)
-
-pub flat_from : (s c n m : ℤ) → pos 0 ≤ℤ s → (pos 5 *ℤ s) <ℤ ((pos 4 *ℤ c) +ℤ (pos 4 *ℤ pos 0)) → (pos 5 *ℤ s) <ℤ ((negsuc 3 *ℤ c) +ℤ (pos 4 *ℤ n)) → n ≤ℤ m → IsFlat s c m
-flat_from s c n m h k l f = record { left = h; near = omega (arith, ints); far = omega (arith, ints) }
+pub far_from : (s c n least start : ℤ) → IsFlat s c n → least ≤ℤ s → start ≤ℤ c → (pos 5 *ℤ least) <ℤ (pos 4 *ℤ (n -ℤ start))
+far_from s c n least start f h k = omega (arith, ints, f.far)
 
 -- what blocks is flat, and the other way round
 pub flat_blocks : (p q r : Point) (s c n : ℤ) → s ≡ orient p q r → c ≡ dot p q r → n ≡ dot p q q → Blocks p q r → IsFlat s c n

@@ -16,6 +16,6 @@ sine t a b = (t.u *ℤ a) +ℤ (t.v *ℤ b)
 abbrev pub cosine : Turn → ℤ → ℤ → ℤ
 cosine t a b = (t.x *ℤ a) +ℤ (t.y *ℤ b)
 
--- five sines are below m cosines and four norms
-abbrev pub IsBelow : Turn → ℤ → ℤ → ℤ → ℤ → Type 0
-IsBelow t m norm a b = (pos 5 *ℤ sine t a b) <ℤ ((m *ℤ cosine t a b) +ℤ (pos 4 *ℤ norm))
+-- the squared length of the vector (a, b)
+abbrev pub norm : ℤ → ℤ → ℤ
+norm a b = (a *ℤ a) +ℤ (b *ℤ b)

@@ -10,7 +10,7 @@ use crate::flat::{is_flat_over, may_be_flat};
 use crate::frame::{Frame, Turn};
 use crate::framing::seen_from;
 use crate::spot::{Entry, Spot};
-use exact_predicates::{Point, blocks, dot};
+use exact_predicates::{Point, blocks};
 
 // How far `q` is to the right of `p`.
 fn width(p: &Point, q: &Point) -> i64
@@ -44,7 +44,7 @@ fn may_block(p: &Point, q: &Point, frame: &Frame) -> bool
         x: width(p, q),
         y: height(p, q),
     };
-    may_be_flat(&turn, &dot(p, q, q), &seen_from(frame, p))
+    may_be_flat(&turn, &seen_from(frame, p))
 }
 
 /// Whether `w` surely blocks the left side of `p` to each point in the frame.

@@ -6,7 +6,6 @@ ghost use Rattle.exact_predicates.specs.Triangulation.{IsCorner};
 ghost use Rattle.point_grid.specs.Regions.{IsProper, Lies, IsWithinBounds};
 
 use crate::bounds::Bounds;
-use crate::flat::mix;
 use exact_predicates::{Point, Tri, in_closed_triangle, in_left_diamond, strictly_between};
 
 /// Where a query looks for points: strictly between two points; in a triangle or on its rim, but for its
@@ -96,6 +95,18 @@ fn around_diamond(p: &Point, q: &Point) -> Bounds
         low: lower(ends.low, y),
         high: upper(ends.high, y + 1),
     }
+}
+
+// A sum of small multiples.
+fn mix(m: i64, x: i64, n: i64, y: i64) -> i64
+    requires m_in { unsigned_abs m ≤ 5 }
+    requires x_in { unsigned_abs x ≤ 2 * 10 ^ 9 }
+    requires n_in { unsigned_abs n ≤ 5 }
+    requires y_in { unsigned_abs y ≤ 2 * 10 ^ 9 }
+    ensures value { result ≡ (m *ℤ x) +ℤ (n *ℤ y) }
+    ensures bound { unsigned_abs result ≤ 2 * 10 ^ 10 }
+{
+    m * x + n * y
 }
 
 // A coordinate of the apex of a diamond, rounded down: it lies in the middle of `a` and `b`, and further

@@ -1,11 +1,12 @@
 use Rattle.std.proofs.Common.{arith}
-use Rattle.point_grid.proofs.Bits.{kept64, kept_sum, sum_le}
+use Rattle.exact_predicates.proofs.Gaps.{kept}
+use Rattle.point_grid.proofs.Bits.{kept_sum, sum_le}
 use Rattle.point_grid.proofs.forms.least.Goals as goal
 
 pub returns-clause-below : goal.returns-clause-below
 returns-clause-below c = λ x y v.
     let w = c.args.view.now in
-    let h = rw (kept64 c.args.a (omega (arith, c.requires.a_in))) at (c.smallest.ensures.below x (rw (kept64 w.left (omega (arith, w.left_in))) v.left) (rw (kept64 w.right (omega (arith, w.right_in))) v.right)) in
-    let k = rw (kept64 c.args.b (omega (arith, c.requires.b_in))) at (c.smallest-2.ensures.below y (rw (kept64 w.low (omega (arith, w.low_in))) v.low) (rw (kept64 w.high (omega (arith, w.high_in))) v.high)) in
+    let h = rw (kept c.args.a (omega (arith, c.requires.a_in))) at (c.smallest.ensures.below x (rw (kept w.left (omega (arith, w.left_in))) v.left) (rw (kept w.right (omega (arith, w.right_in))) v.right)) in
+    let k = rw (kept c.args.b (omega (arith, c.requires.b_in))) at (c.smallest-2.ensures.below y (rw (kept w.low (omega (arith, w.low_in))) v.low) (rw (kept w.high (omega (arith, w.high_in))) v.high)) in
     rw (kept_sum c.smallest.result c.smallest-2.result (omega (arith, c.smallest.ensures.bound)) (omega (arith, c.smallest-2.ensures.bound)))
     (sum_le _ _ _ _ h k)

@@ -1,5 +1,5 @@
 use Rattle.point_grid.proofs.Bits.{mixed_le, fits_mixed, kept_mixed}
-use Rattle.point_grid.proofs.flat.mix.Goals as goal
+use Rattle.point_grid.proofs.region.mix.Goals as goal
 
 pub overflow_add-result : goal.overflow_add-result
 overflow_add-result c = fits_mixed c.args.m c.args.x c.args.n c.args.y c.requires.m_in c.requires.x_in c.requires.n_in c.requires.y_in
