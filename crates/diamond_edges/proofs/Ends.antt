@@ -1,6 +1,5 @@
 -- The greater ends of edges, one after the other.
-use Rattle.std.proofs.Common.{◌≡◌, ◌⊎◌, ℕ, ◌+◌, ◌<◌, ◌≤◌, List, [], ◌∷◌, ◌++◌, length, slice_index, get_or, All, AllPairs, Contains, inl, inr, ⊎_elim, refl, arith, sym, ap, ◌∙◌, subst}
-use Rattle.std.proofs.lemmas.Bool.{cases_lt}
+use Rattle.std.proofs.Common.{◌≡◌, ℕ, ◌<◌, List, length, get_or, Contains, inr, arith, sym, ◌∙◌, subst}
 use Rattle.std.proofs.lemmas.List.{get_or_default}
 use Rattle.exact_predicates.specs.declared.diamond.Diamond.{Diamond}
 use Rattle.exact_predicates.specs.declared.edge.Edge.{Edge}
@@ -9,7 +8,7 @@ use Rattle.exact_predicates.specs.Candidates.{EdgePrecedes}
 use Rattle.exact_predicates.proofs.Equalities.{Edge-equal}
 use Rattle.point_grid.specs.Listing.{IsListing}
 use Rattle.diamond_edges.specs.Enumeration.{IsOpen, IsOpenEdge, AreEdgesTo}
-use Rattle.diamond_edges.specs.Rows.{IsNext, IsRow}
+use Rattle.diamond_edges.specs.Rows.{IsRow}
 
 -- the edges to the ends of a row are those from its point
 pub listing_edges : (diamond : Diamond) (ps : List Point) (a : ℕ) (ends : List ℕ) (es : List Edge) → IsRow diamond ps a ends → AreEdgesTo a ends es → IsListing EdgePrecedes (IsOpenEdge diamond ps) (λ (e : Edge). e.a ≡ a) es

@@ -1,5 +1,5 @@
 -- Candidate edges are told without the hull.
-use Rattle.std.proofs.Common.{◌≡◌, ◌≢◌, ℕ, ◌<◌, ◌≤◌, List, length, All, AllPairs, Contains, ⊎_elim, arith, ap}
+use Rattle.std.proofs.Common.{◌≢◌, ℕ, ◌<◌, ◌≤◌, List, length, ⊎_elim, arith, ap}
 use Rattle.std.proofs.lemmas.List.Elements.{All-weaker}
 use Rattle.exact_predicates.specs.declared.diamond.Diamond.{Diamond}
 use Rattle.exact_predicates.specs.declared.diamond.Diamond.TheVariants.{Off, On}

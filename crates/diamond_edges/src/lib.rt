@@ -5,6 +5,7 @@ mod blocks;
 mod link;
 mod row;
 mod rows;
+mod sector;
 mod seen;
 mod slots;
 mod stop;

@@ -5,7 +5,8 @@ ghost use Rattle.point_grid.specs.Tree.{AreSpotsOf};
 ghost use Rattle.diamond_edges.specs.Enumeration.{IsLinked};
 ghost use Rattle.diamond_edges.specs.Rows.{AreGuesses, IsBlocked, IsClear};
 
-use crate::slots::{Side, direction, learn, slot_blocks};
+use crate::sector::direction;
+use crate::slots::{Side, learn, slot_blocks};
 use exact_predicates::{Point, Points};
 use point_grid::BoxTree;
 

@@ -2,10 +2,12 @@
 // that did block others. What stands in the slots is a guess, and no result depends on it.
 ghost use Rattle.std.specs.Prelude.{ℕ, ◌≡◌, ◌<◌, ◌≤◌, ◌*◌, ◌^◌, IsTrue, length, unsigned_abs};
 ghost use Rattle.exact_predicates.specs.Plane.{IsInRange};
+ghost use Rattle.exact_predicates.specs.PointSet.{point_at};
 ghost use Rattle.exact_predicates.specs.declared.point.Point.{Point};
 ghost use Rattle.point_grid.specs.Frames.{IsInFrame};
 ghost use Rattle.diamond_edges.specs.Rows.{AreGuesses, IsBlocked};
 
+use crate::sector::{direction, direction_of_frame};
 use exact_predicates::{Point, Points, blocks, d2};
 use point_grid::{Frame, blocks_left_of_all, blocks_right_of_all};
 
@@ -62,53 +64,6 @@ impl Side {
     }
 }
 
-// The direction of a vector, counter-clockwise from 0.
-fn sector(x: i64, y: i64) -> usize
-    ensures { result < 32 }
-{
-    let width = x.unsigned_abs();
-    let height = y.unsigned_abs();
-    let steep = eighth(width.min(height), width.max(height));
-    let quarter = if width < height { 7 - steep } else { steep };
-    let half = if x < 0 { 15 - quarter } else { quarter };
-    if y < 0 { 31 - half } else { half }
-}
-
-// Which part of an eighth of all directions it is.
-fn eighth(low: u64, high: u64) -> usize
-    ensures { result < 4 }
-{
-    if low < high / 4 {
-        0
-    } else if low < high / 2 {
-        1
-    } else if low < high / 4 * 3 {
-        2
-    } else {
-        3
-    }
-}
-
-/// The direction in which `q` is seen from `p`.
-pub(crate) fn direction(p: &Point, q: &Point) -> usize
-    requires p_in { IsInRange p.now }
-    requires q_in { IsInRange q.now }
-    ensures { result < 32 }
-{
-    sector(q.x - p.x, q.y - p.y)
-}
-
-// The direction in which a frame is seen from `p`.
-fn direction_of_frame(p: &Point, frame: &Frame) -> usize
-    requires p_in { IsInRange p.now }
-    ensures { result < 32 }
-{
-    sector(
-        frame.left + frame.right - 2 * p.x,
-        frame.low + frame.high - 2 * p.y,
-    )
-}
-
 /// Puts the point `w` into its slot as it is seen from the point `a`, if it is nearer than the one
 /// there.
 pub(crate) fn note(points: &Points, a: u32, w: u32, slots: &mut [u32])
@@ -126,14 +81,16 @@ pub(crate) fn note(points: &Points, a: u32, w: u32, slots: &mut [u32])
     }
 }
 
-/// Keeps the point `w`, which blocked this side of an edge, and that before it.
+/// Keeps the point `w`, which blocked this side of an edge, before those that did earlier.
 pub(crate) fn learn(points: &Points, w: u32, side: Side, slots: &mut [u32])
     requires w_in { w < length points.now.points }
     requires slots { AreGuesses points.now.points slots.old }
     ensures { AreGuesses points.now.points slots.new }
 {
-    let last = slots[side.last()];
-    slots[side.last() + 1 + last as usize % LEARNED] = last;
+    for k in 0..LEARNED {
+        let place = side.last() + LEARNED - k;
+        slots[place] = slots[place - 1];
+    }
     slots[side.last()] = w;
 }
 
@@ -164,62 +121,73 @@ pub(crate) fn slot_blocks(
     false
 }
 
-// Whether a point in one of the slots blocks the left side of `p` to each point in the frame.
-fn slot_blocks_left(
-    points: &Points,
-    slots: &[u32],
-    direction: usize,
-    p: &Point,
-    frame: &Frame,
-) -> bool
+// Whether a point in one of the slots blocks the left side of the point `a` to each point in the frame. Slots
+// with `a` itself are not filled, and behind such a one no other for points that blocked before is.
+fn slot_blocks_left(points: &Points, slots: &[u32], direction: usize, a: u32, frame: &Frame) -> bool
     requires slots { AreGuesses points.now.points slots.now }
     requires direction_in { direction < 32 }
-    requires p_in { IsInRange p.now }
-    ensures { IsTrue result → (q : Point) → IsInFrame frame.now q → IsBlocked points.now.points p.now q }
+    requires a_in { a < length points.now.points }
+    ensures { IsTrue result → (q : Point) → IsInFrame frame.now q →
+        IsBlocked points.now.points (point_at points.now.points a) q }
 {
+    let p = points.at(a);
     for k in 0..TRIES {
-        if blocks_left_of_all(p, points.at(slots[Side::Left.slot(direction, k)]), frame) {
-            return true;
+        let w = slots[Side::Left.slot(direction, k)];
+        if w != a {
+            if blocks_left_of_all(p, points.at(w), frame) {
+                return true;
+            }
+        } else if k > ASKED {
+            return false;
         }
     }
     false
 }
 
-// The same of the left side of each point in the frame to `p`.
+// The same of the left side of each point in the frame to the point `a`.
 fn slot_blocks_right(
     points: &Points,
     slots: &[u32],
     direction: usize,
-    p: &Point,
+    a: u32,
     frame: &Frame,
 ) -> bool
     requires slots { AreGuesses points.now.points slots.now }
     requires direction_in { direction < 32 }
-    requires p_in { IsInRange p.now }
-    ensures { IsTrue result → (q : Point) → IsInFrame frame.now q → IsBlocked points.now.points q p.now }
+    requires a_in { a < length points.now.points }
+    ensures { IsTrue result → (q : Point) → IsInFrame frame.now q →
+        IsBlocked points.now.points q (point_at points.now.points a) }
 {
+    let p = points.at(a);
     for k in 0..TRIES {
-        if blocks_right_of_all(p, points.at(slots[Side::Right.slot(direction, k)]), frame) {
-            return true;
+        let w = slots[Side::Right.slot(direction, k)];
+        if w != a {
+            if blocks_right_of_all(p, points.at(w), frame) {
+                return true;
+            }
+        } else if k > ASKED {
+            return false;
         }
     }
     false
 }
 
-/// Whether both sides of each edge from `p` to a point in the frame are surely blocked. A frame that is
-/// wider than it is far is not tried.
-pub(crate) fn is_dead(points: &Points, slots: &[u32], p: &Point, frame: &Frame) -> bool
+/// Whether both sides of each edge from the point `a` to a point in the frame are surely blocked. A frame
+/// that is wider than it is far is not tried.
+pub(crate) fn is_dead(points: &Points, slots: &[u32], a: u32, frame: &Frame) -> bool
     requires slots { AreGuesses points.now.points slots.now }
-    requires p_in { IsInRange p.now }
+    requires a_in { a < length points.now.points }
     ensures { IsTrue result → (q : Point) → IsInFrame frame.now q →
-        IsBlocked points.now.points p.now q × IsBlocked points.now.points q p.now }
+        IsBlocked points.now.points (point_at points.now.points a) q
+        × IsBlocked points.now.points q (point_at points.now.points a) }
 {
+    let p = points.at(a);
     if seems_wide(p, frame) {
         return false;
     }
     let direction = direction_of_frame(p, frame);
-    slot_blocks_left(points, slots, direction, p, frame)
-        && slot_blocks_right(points, slots, direction, p, frame)
+    slot_blocks_left(points, slots, direction, a, frame)
+        && slot_blocks_right(points, slots, direction, a, frame)
 }
 
 // Whether a frame is wider or higher than it is far from `p`.

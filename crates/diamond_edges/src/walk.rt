@@ -92,7 +92,7 @@ fn is_passed_over(points: &Points, a: u32, slots: &[u32], frame: &Frame) -> bool
 {
     let _count = points.len();
     let p = points.at(a);
-    frame.right < p.x || is_dead(points, slots, p, frame)
+    frame.right < p.x || is_dead(points, slots, a, frame)
 }
 
 // Adds the greater ends of such edges to spots of these entries, one by one.

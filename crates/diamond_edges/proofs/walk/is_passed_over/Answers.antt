@@ -1,11 +1,10 @@
-use Rattle.std.proofs.Common.{◌≡◌, ◌⊎◌, ◌*◌, ◌^◌, ◌≤◌, ℤ, ◌≤ℤ◌, ◌<ℤ◌, unsigned_abs, arith, subst, inl, inr, ⊎_elim}
+use Rattle.std.proofs.Common.{◌≡◌, ◌⊎◌, ◌*◌, ◌^◌, ◌≤◌, ℤ, ◌≤ℤ◌, ◌<ℤ◌, unsigned_abs, arith, inl, inr, ⊎_elim}
 use Rattle.std.proofs.lemmas.Int.{ints}
 use Rattle.exact_predicates.specs.declared.point.Point.{Point}
 use Rattle.exact_predicates.specs.Plane.{IsInRange}
 use Rattle.exact_predicates.specs.PointSet.{point_at}
 use Rattle.exact_predicates.proofs.Numbers.{IsOrdered-points}
 use Rattle.point_grid.proofs.Bits.{kept64, lt_true}
-use Rattle.diamond_edges.specs.Rows.{IsBlocked}
 use Rattle.diamond_edges.proofs.walk.is_passed_over.Goals as goal
 
 within : (p : Point) → IsInRange p → unsigned_abs p.x ≤ 2 * 10 ^ 10
@@ -26,8 +25,5 @@ returns-then-frame-p c = λ h b i n.
 
 pub returns-else-frame-p : goal.returns-else-frame-p
 returns-else-frame-p c = λ h b i n.
-    let ps = c.args.points.now.points in
-    let dead = c.is_dead.ensures h (point_at ps b) i in
-    let left = subst (λ (p : Point). IsBlocked ps p (point_at ps b)) c.at-p.ensures.value dead.0 in
-    let right = subst (λ (p : Point). IsBlocked ps (point_at ps b) p) c.at-p.ensures.value dead.1 in
-    ⊎_elim (λ free. free left.0 left.1 left.2) (λ free. free right.0 right.1 right.2) n.2
+    let dead = c.is_dead.ensures h (point_at c.args.points.now.points b) i in
+    ⊎_elim (λ free. free dead.0.0 dead.0.1 dead.0.2) (λ free. free dead.1.0 dead.1.1 dead.1.2) n.2
