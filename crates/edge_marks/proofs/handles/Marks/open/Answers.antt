@@ -17,3 +17,17 @@ new-requires c = let k : About = record { net = c.of.result; seats = c.args.seat
 pub load-requires : goal.load-requires
 load-requires c = let e = c.in-Ok.ensures.ok in let w = e.0 in let l = c.as_slice.ensures.len in let m = c.in_ok-words.ensures.len in
     (e.2, omega arith, notes c.in-Ok.table.shared.key _ _ c.in-Ok.place.me (ap (λ (m : Sitting). m.1) e.4) (ap (λ (m : Sitting). m.0.noted) e.4))
+
+pub invariant_of-seat : goal.invariant_of-seat
+invariant_of-seat c =
+    record {
+      note = search rules;
+      slot_is = search rules;
+      noted = search rules;
+      idle = search rules;
+      splits = search rules;
+      wide = search rules;
+      bits_are = grind (arith, common_steps);
+      blank = search rules;
+      few = search rules;
+    }
