@@ -158,13 +158,14 @@ fn counts_of(
     }
 }
 
-// 289 of these points have no more empty triangles than the limit, 290 have more; 895 have more
+// 289 of these points have no more empty triangles than the limit, 290 and 400 have more; 895 have more
 // candidate edges.
 #[test]
 fn limits_of_edges_and_triangles(rt: HostRuntime) -> Result<(), Fail> {
     let alloc = rt.alloc();
     assert_eq!(rt; counts_of(&rt, alloc, 289)?, (41_616, Ok(3_981_264)));
     assert_eq!(rt; counts_of(&rt, alloc, 290)?, (41_905, Err(TriStop::Dense)));
+    assert_eq!(rt; counts_of(&rt, alloc, 400)?, (79_800, Err(TriStop::Dense)));
     let points = parabola(alloc, 895)?;
     let hull = swept(alloc, &points)?.hull;
     let stop = Elimination::of(&rt, alloc, &points, &hull, Diamond::Off).err();
