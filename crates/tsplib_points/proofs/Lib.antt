@@ -1,6 +1,7 @@
 pub mod DigitTexts
 pub mod DistinctNumbers
 pub mod Growth
+pub mod KeptNodes
 pub mod KeptReals
 pub mod NodeTexts
 pub mod Passes

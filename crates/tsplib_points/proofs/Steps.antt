@@ -1,15 +1,13 @@
 -- A pass goes over one more line.
-use Rattle.std.proofs.Common.{◌≡◌, ℕ, zero, suc, Bool, true, false, ◌||◌, cond, eqb, List, [], ◌∷◌, ◌++◌, take, drop, Option, Some, None, is_some, inl, inr, refl, sym, ap, ◌∙◌, arith, bytes_eq, codes, IsSomeAnd}
+use Rattle.std.proofs.Common.{◌≡◌, ℕ, zero, suc, Bool, true, false, ◌||◌, List, [], ◌∷◌, ◌++◌, take, drop, Some, None, is_some, inl, inr, refl, sym, ap, ◌∙◌, bytes_eq, codes}
 use Rattle.std.specs.List.{list_any, list_all, prefix_len, before_first, cons_option}
 use Rattle.std.specs.Ordering.{nat_cmp}
-use Rattle.std.specs.BTreeSet.{BTreeSet, contains}
-use Rattle.std.specs.BTreeMap.{is_at}
-use Rattle.std.proofs.lemmas.Bool.{cases_Bool, and_right, and_parts, or_right}
-use Rattle.std.proofs.lemmas.Bool.Decides.{nat_tests}
+use Rattle.std.specs.BTreeSet.{contains}
+use Rattle.std.proofs.lemmas.Bool.{cases_Bool, and_right, and_parts}
 use Rattle.std.proofs.lemmas.Slice.Eq.{bytes_eq-Decides}
 use Rattle.tsplib_points.specs.declared.node.KeptNode.{KeptNode}
 use Rattle.tsplib_points.specs.declared.gather.Pass.{Pass}
-use Rattle.tsplib_points.specs.declared.reason.Reason.TheVariants.{RepeatedId, AfterEnd}
+use Rattle.tsplib_points.specs.declared.reason.Reason.TheVariants.{AfterEnd}
 use Rattle.tsplib_points.specs.Lines.{Line, is_blank, is_empty, trim_front, trim_back, trim, words}
 use Rattle.tsplib_points.specs.Numbers.{small_number}
 use Rattle.tsplib_points.specs.Header.{Parts, parts_of, is_colon, is_end_mark, is_section_mark, is_dimension_entry, header_reason, is_end, is_section, is_dimension, lines_to_end, header_lines, section_lines, dimension}
@@ -18,7 +16,7 @@ use Rattle.tsplib_points.specs.Refusals.{line_reason}
 use Rattle.tsplib_points.specs.Gathering.{KeepsNode}
 use Rattle.tsplib_points.specs.Passing.{IsPassed}
 use Rattle.tsplib_points.proofs.Pieces.{one_suc, words_trim, words_none}
-use Rattle.tsplib_points.proofs.Passes.{or_false, any_push, any_push_no, any_push_yes, all_zip_push}
+use Rattle.tsplib_points.proofs.Passes.{any_push, any_push_no, any_push_yes, all_zip_push}
 use Rattle.tsplib_points.proofs.Growth.{header_open, header_grows, header_ended, header_closed, dimension_stays, any_dimension_stays, dimension_same, dimension_first, nodes_ended, nodes_header, nodes_grow, nodes_stay}
 
 -- a text of blanks is nothing behind them
@@ -228,32 +226,6 @@ passes_node pass next before l kept n h e s i o k same_end same_section same_tol
       kept = rw (pushed, grow) (all_zip_push KeepsNode pass.found.nodes.items (nodes before) kept n h.kept k);
       numbers = λ q. more q ∙ rw grow (ap (λ b. b || has_number q n) (h.numbers q) ∙ sym (any_push (has_number q) (nodes before) n));
     }
-
--- a node's number is told by its place in the order
-at_number : (a q : ℕ) → is_at (nat_cmp a) q ≡ eqb a q
-at_number a q = grind (arith, nat_tests)
-
--- the numbers, with one more
-pub more_numbers : (old new : BTreeSet ℕ) (kept : KeptNode) (n : Node) → KeepsNode kept n
-    → ((q : ℕ) → contains nat_cmp new q ≡ cond (is_at (nat_cmp kept.number) q) true (contains nat_cmp old q))
-    → (q : ℕ) → contains nat_cmp new q ≡ (contains nat_cmp old q || has_number q n)
-more_numbers old new kept n k h q =
-    h q ∙ ap (λ b. cond b true (contains nat_cmp old q)) (at_number kept.number q ∙ ap (λ m. eqb m q) k.number) ∙ either (eqb n.number q) (contains nat_cmp old q) where
-      either : (a b : Bool) → cond a true b ≡ (b || a)
-      either true b = sym (or_right b true refl)
-      either false b = sym (or_false b)
-
--- a node is judged by its number, where its coordinates are kept
-pub node_judged : (pass : Pass) (before : List Line) (kept : KeptNode) (n : Node) (b : Bool) → IsPassed pass before → KeepsNode kept n → contains nat_cmp pass.numbers kept.number ≡ b
-    → node_reason (nodes before) (Some n) ≡ cond b (Some RepeatedId) None
-node_judged pass before kept n b h k found =
-    let repeated : list_any (has_number n.number) (nodes before) ≡ b = ap (λ m. list_any (has_number m) (nodes before)) (sym k.number) ∙ sym (h.numbers kept.number) ∙ found in
-    rw (k.x.whole 6 k.x.small, k.y.whole 6 k.y.small, repeated) refl
-
--- the node of a line, where some node is kept
-pub kept_node : (o : Option Node) (kept : KeptNode) → IsSomeAnd o (KeepsNode kept) → (n : Node) × (o ≡ Some n) × KeepsNode kept n
-kept_node None kept h = absurd h
-kept_node (Some n) kept h = (n, refl, h)
 
 -- a DIMENSION that does not fail is the first
 pub first_dimension : (has : Bool) (p : Parts) → is_end_mark p ≡ false → is_section_mark p ≡ false → is_dimension_entry p ≡ true → header_reason has p ≡ None → has ≡ false
