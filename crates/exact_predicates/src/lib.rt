@@ -17,7 +17,7 @@ pub use diamond::Diamond;
 pub use edge::Edge;
 pub use laws::{order_laws, root_laws, triangulation_laws};
 pub use lists::{Edges, Hull, PointList, Tris, next_on_hull, place_of_edge};
-pub use point::{Point, d2, dot, in_range, orient};
+pub use point::{Point, d2, dot, in_range, orient, product};
 pub use points::{Points, PointsStop};
 pub use relations::{
     blocks, crosses, in_closed_triangle, in_left_diamond, is_below_base_angle, strictly_between,

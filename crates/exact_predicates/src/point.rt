@@ -67,8 +67,8 @@ pub(crate) fn inner_product(o: &Point, p: &Point, q: &Point) -> i64
     product(p.x - o.x, q.x - o.x) + product(p.y - o.y, q.y - o.y)
 }
 
-// The product of two differences of coordinates.
-fn product(a: i64, b: i64) -> i64
+/// The product of two differences of coordinates.
+pub fn product(a: i64, b: i64) -> i64
     requires a_in { unsigned_abs a ≤ 2 * 10 ^ 9 }
     requires b_in { unsigned_abs b ≤ 2 * 10 ^ 9 }
     ensures value { result ≡ a *ℤ b }

@@ -4,16 +4,7 @@ ghost use Rattle.point_grid.specs.Flat.{norm};
 ghost use Rattle.point_grid.specs.Views.{IsInView};
 
 use crate::frame::View;
-
-// The product of two differences of coordinates.
-fn product(a: i64, b: i64) -> i64
-    requires a_in { unsigned_abs a ≤ 2 * 10 ^ 9 }
-    requires b_in { unsigned_abs b ≤ 2 * 10 ^ 9 }
-    ensures value { result ≡ a *ℤ b }
-    ensures bound { unsigned_abs result ≤ 4 * 10 ^ 18 }
-{
-    a * b
-}
+use exact_predicates::product;
 
 // At least each `a * x` with `x` from `low` to `high`.
 fn largest(a: i64, low: i64, high: i64) -> i64
