@@ -18,6 +18,7 @@ use Rattle.point_grid.specs.declared.spot.Entry.TheVariants.{Leaf, Fork}
 use Rattle.point_grid.specs.declared.spot.Spot.{Spot}
 use Rattle.point_grid.specs.Blockers.{HasNoBlocker}
 use Rattle.point_grid.specs.Tree.{HasLeaf, HasFork, AreSpotsOf}
+use Rattle.point_grid.proofs.Entries.{same_leaf}
 use Rattle.diamond_edges.specs.Rows.{IsClear, IsNext, IsRow, Adds}
 
 -- where no spot blocks, no point does
@@ -25,16 +26,6 @@ pub clear_from : (ps : List Point) (es : List Entry) (p q : Point) → AreSpotsO
 clear_from ps es p q t none r r_in b =
     let (k, s, leaf, same) = t.all r r_in in
     none k s leaf (subst (Blocks p q) (sym ((t.each k s leaf).1 ∙ ap (point_at ps) same)) b)
-
--- an entry is a spot or a frame
-pub leaf_or_fork : (es : List Entry) (k : ℕ) (s : Spot) (f : Frame) (start : ℕ) → HasLeaf es k s → HasFork es k f start → ⊥
-leaf_or_fork es k s f start leaf fork =
-    let e : Leaf s ≡ Fork f start = sym leaf.1 ∙ (get_or_default es k (Leaf s) (Fork f start) leaf.0 ∙ fork.1) in cc
-
--- and no two spots
-pub same_leaf : (es : List Entry) (k : ℕ) (s t : Spot) → HasLeaf es k s → HasLeaf es k t → s ≡ t
-same_leaf es k s t leaf other =
-    let e : Leaf s ≡ Leaf t = sym leaf.1 ∙ (get_or_default es k (Leaf s) (Leaf t) leaf.0 ∙ other.1) in cc
 
 module _ (ps : List Point) (a : ℕ) (es : List Entry) where
   -- where there is none to add

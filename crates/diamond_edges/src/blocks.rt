@@ -22,9 +22,9 @@ const BLOCK: usize = 2048;
 
 const FIRST_BLOCK: usize = 64;
 
-/// The end of the block of lesser ends that begins with `a`, where those before have `found` edges. It has
-/// fewer where as many edges from each again would pass the limit: what is made of a block is held at
-/// one time, and may be made in vain.
+/// The end of the block of lesser ends that begins with `a`, where those before have `found` edges. The
+/// block is smaller where as many edges from each as so far could pass the limit: all that a block
+/// gives is held at once, and is of no use where there are too many.
 pub(crate) fn block_end(count: u32, a: u32, found: usize) -> u32
     requires a_in { a < count }
     requires few { count ≤ most_points }

@@ -6,7 +6,7 @@ ghost use Rattle.diamond_edges.specs.Rows.{IsRow};
 
 use exact_predicates::Points;
 use mwt_base::NoMemory;
-use point_grid::{by_direction, is_first_on_ray};
+use point_grid::{SightList, by_direction, is_first_on_ray};
 use std::alloc::Global;
 
 /// The points after `a` that it sees, ascending. For n points it takes time n log n: those that `a`
@@ -33,7 +33,8 @@ fn seen_from(alloc: Global, points: &Points, a: u32) -> Result<Vec<bool>, NoMemo
 {
     let count = points.len();
     let later = numbers_after(alloc, a, count)?;
-    let order = by_direction(alloc, points, a, &later)?;
+    let mut sights = SightList::none(alloc);
+    let order = by_direction(alloc, points, a, &later, &mut sights)?;
     let mut marks = vec![in alloc; false; count as usize]?;
     for k in 0..order.len() {
         marks[order[k] as usize] = is_first_on_ray(points, a, &order, k);

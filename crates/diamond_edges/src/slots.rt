@@ -11,7 +11,7 @@ use crate::sector::{direction, direction_of_frame};
 use exact_predicates::{Point, Points, blocks, d2};
 use point_grid::{Frame, blocks_left_of_all, blocks_right_of_all};
 
-// Slots for so many directions. Behind them, for each side, stand one for the point that blocked it last and
+// Slots for so many directions. After them, for each side, stand one for the point that blocked it last and
 // so many for points that blocked it before.
 const DIRECTIONS: usize = 32;
 
@@ -121,8 +121,8 @@ pub(crate) fn slot_blocks(
     false
 }
 
-// Whether a point in one of the slots blocks the left side of the point `a` to each point in the frame. Slots
-// with `a` itself are not filled, and behind such a one no other for points that blocked before is.
+// Whether a point in one of the slots blocks the left side of the point `a` to each point in the frame.
+// A slot that has `a` itself is empty; after one, no slot of points that blocked before is filled.
 fn slot_blocks_left(points: &Points, slots: &[u32], direction: usize, a: u32, frame: &Frame) -> bool
     requires slots { AreGuesses points.now.points slots.now }
     requires direction_in { direction < 32 }

@@ -9,7 +9,7 @@ use std::alloc::{AllocError, AllocFailed};
 pub enum EdgeStop {
     /// There are more than 400,000.
     Dense,
-    /// Want of memory.
+    /// Out of memory.
     NoMemory,
 }
 

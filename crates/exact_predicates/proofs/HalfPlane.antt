@@ -121,7 +121,7 @@ turn_strict_last o a b c ha hb hc ab bc =
     cross_strict_last _ _ _ _ _ _ (forward_from o a ha) (forward_from o b hb) (forward_from o c hc) ab bc
 
 -- the turns between four vectors
-cross_four : (ax ay bx by cx cy dx dy : ℤ) → cross ax ay cx cy *ℤ cross bx by dx dy ≡ (cross ax ay bx by *ℤ cross cx cy dx dy) +ℤ (cross ax ay dx dy *ℤ cross bx by cx cy)
+pub cross_four : (ax ay bx by cx cy dx dy : ℤ) → cross ax ay cx cy *ℤ cross bx by dx dy ≡ (cross ax ay bx by *ℤ cross cx cy dx dy) +ℤ (cross ax ay dx dy *ℤ cross bx by cx cy)
 cross_four ax ay bx by cx cy dx dy =
     ring (ax ∷ ay ∷ bx ∷ by ∷ cx ∷ cy ∷ dx ∷ dy ∷ [])
     (times (less (times (var 0) (var 5)) (times (var 1) (var 4))) (less (times (var 2) (var 7)) (times (var 3) (var 6))))

@@ -11,7 +11,7 @@ use Rattle.std.proofs.lemmas.List.Elements.{All-head, All-tail, All-cons}
 pub AllPairs-head : {X : Type 0} (R : X → X → Type 0) (x : X) (xs : List X) → AllPairs R (x ∷ xs) → All (R x) xs
 AllPairs-head R x xs h = λ k d l. h 0 (suc k) d (omega arith) (omega arith)
 
--- each two elements behind the first
+-- each two elements after the first
 pub AllPairs-tail : {X : Type 0} (R : X → X → Type 0) (x : X) (xs : List X) → AllPairs R (x ∷ xs) → AllPairs R xs
 AllPairs-tail R x xs h = λ i j d l k. h (suc i) (suc j) d (omega arith) (omega arith)
 

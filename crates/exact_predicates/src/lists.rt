@@ -37,7 +37,7 @@ pub fn place_of_edge(edges: &[Edge], u: u32, v: u32) -> Option<usize>
     }
 }
 
-/// The number that comes behind the one at a place of a hull: the next one, and behind the last the
+/// The number that comes after the one at a place of a hull: the next one, and after the last the
 /// first. The two are a pair of the hull.
 pub fn next_on_hull(hull: &[u32], place: usize) -> u32
     requires { place < length hull.now }

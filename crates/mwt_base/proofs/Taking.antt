@@ -5,7 +5,7 @@ use Rattle.std.specs.Io.KnownBytes.{Consumes}
 use Rattle.std.proofs.KnownBytes.{Consumes-trans}
 use Rattle.mwt_base.specs.Told.{TakesFront, TookMore}
 
--- too much behind what was taken already
+-- too much after what was taken already
 pub TookMore-behind : (limit n : ℕ) (a b c : Option (List ℕ)) (bytes : List ℕ)
     → Consumes a b bytes → n ≡ length bytes → n ≤ limit → TookMore (limit - n) b c → TookMore limit a c
 TookMore-behind limit n a b c bytes taken len within more = record {
@@ -14,7 +14,7 @@ TookMore-behind limit n a b c bytes taken len within more = record {
   more = let h : limit - n < length more.bytes = more.more in omega (arith, length-append bytes more.bytes);
 }
 
--- some more behind what was taken already
+-- some more after what was taken already
 pub TakesFront-behind : (a b c : Option (List ℕ)) (bytes : List ℕ) → Consumes a b bytes → TakesFront b c → TakesFront a c
 TakesFront-behind a b c bytes taken more =
     record { bytes = bytes ++ more.bytes; taken = Consumes-trans a b c bytes more.bytes taken more.taken }

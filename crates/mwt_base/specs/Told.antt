@@ -35,7 +35,7 @@ pub record TookMore (limit : ℕ) (before after : Option (List ℕ)) : Type 0 wh
   pub taken : Consumes before after bytes
   pub more : limit < length bytes
 
--- what was taken stands behind what was kept
+-- what was taken stands after what was kept
 pub record KeepsTaken (before after : Option (List ℕ)) (old new : List ℕ) : Type 0 where
   pub bytes : List ℕ
   pub taken : Consumes before after bytes

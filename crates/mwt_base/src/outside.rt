@@ -1,4 +1,4 @@
-// What the program reads from and writes to, the gate that its workers pass, and want of memory.
+// What the program reads from and writes to, the gate that its workers pass, and running out of memory.
 ghost use Rattle.std.specs.Prelude.{◌≡◌, ◌+◌, ◌<◌, ◌≤◌, ℕ, List, length, IfOk};
 ghost use Rattle.std.specs.declared.option.Option.{Option};
 ghost use Rattle.std.specs.Io.{ReadsAtMost, WritesAtMost};
@@ -12,7 +12,7 @@ use std::alloc::{AllocError, AllocFailed};
 #[derive(Clone, Copy, Debug, PartialEq, Eq)]
 pub struct Failed;
 
-/// Want of memory. It is an error of its own, merged with no other.
+/// Out of memory. It is an error of its own, merged with no other.
 #[derive(Clone, Copy, Debug, PartialEq, Eq)]
 pub struct NoMemory;
 

@@ -10,7 +10,7 @@ use std::alloc::{AllocError, Global};
 
 const PIECE: usize = 65_536;
 
-/// Why a source was not read to its end: a read failed, more than the limit came, or want of memory.
+/// Why a source was not read to its end: a read failed, more than the limit came, or memory ran out.
 #[derive(Clone, Copy, Debug, PartialEq, Eq)]
 pub enum ReadStop {
     ReadFault,
@@ -67,7 +67,7 @@ fn zeros(alloc: Global, len: usize) -> Result<Vec<u8>, AllocError>
     vec![in alloc; 0u8; len]
 }
 
-// One read, whose bytes go behind those that are kept. It answers whether there may be more.
+// One read, whose bytes go after those that are kept. It answers whether there may be more.
 fn take_piece<S: Source>(
     source: &mut S,
     piece: &mut [u8],

@@ -1,4 +1,4 @@
--- One more line behind those of a pass.
+-- One more line after those of a pass.
 use Rattle.std.proofs.Common.{◌≡◌, ℕ, suc, ◌+◌, Bool, true, false, ◌||◌, List, [], ◌∷◌, ◌++◌, take, drop, Option, Some, None, inl, inr, refl, sym, ap, ◌∙◌, arith, find}
 use Rattle.std.specs.List.{AllZip, list_any, position_or_len, after_first, before_first}
 use Rattle.std.specs.Option.{option_or}
@@ -6,7 +6,7 @@ use Rattle.std.proofs.lemmas.Bool.{cases_Bool, or_right}
 use Rattle.std.proofs.lemmas.List.Folds.{list_any-append, find-append}
 use Rattle.tsplib_points.proofs.Pieces.{one_suc}
 
--- before and behind the first that passes, where the list begins with it and where it does not
+-- before and after the first that passes, where the list begins with it and where it does not
 before_yes : {X : Type 0} (p : X → Bool) (y : X) (ys : List X) → p y ≡ true → before_first p (y ∷ ys) ≡ []
 before_yes p y ys e = rw e refl
 
@@ -41,7 +41,7 @@ after_none p (y ∷ ys) h = elim (cases_Bool (p y)) [
   | inr e ↦ after_no p y ys e ∙ after_none p ys (rw e at h)
 ]
 
--- where one passes, what comes behind changes nothing before it
+-- where one passes, what comes after changes nothing before it
 pub before_some : {X : Type 0} (p : X → Bool) (xs ys : List X) → list_any p xs ≡ true → before_first p (xs ++ ys) ≡ before_first p xs
 before_some p [] ys h = absurd (cc)
 before_some p (x ∷ xs) ys h = elim (cases_Bool (p x)) [

@@ -47,7 +47,7 @@ is_some-position p xs = elim (cases_lt (position_or_len p xs) (length xs)) [
   | inr i ↦ rw (le-ltb _ _ i, none_any p xs i) refl
 ]
 
--- nothing stands behind where no element passes
+-- nothing stands after where no element passes
 pub none_behind : (p : ℕ → Bool) (xs : List ℕ) → is_some (position p xs) ≡ false → after_first p xs ≡ []
 none_behind p xs none = elim (cases_lt (position_or_len p xs) (length xs)) [
   | inl i ↦ absurd (false≢true (sym none ∙ is_some-position p xs ∙ some_any p xs i))
@@ -80,7 +80,7 @@ unfolding texts
 empty_texts [] h = refl
 empty_texts (b ∷ bs) h = absurd (false≢true h)
 
--- the first line ends at the first LF, and the others stand behind it
+-- the first line ends at the first LF, and the others stand after it
 pub texts_next : (bs : List ℕ) → 0 < length bs → texts bs ≡ without_return (before_first is_line_feed bs) ∷ texts (after_first is_line_feed bs)
 unfolding texts
 texts_next bs h = elim (cases_lt (position_or_len is_line_feed bs) (length bs)) [
@@ -99,7 +99,7 @@ one_suc n = omega arith
 word_first : (b : ℕ) (bs : List ℕ) → is_blank b ≡ false → before_first is_blank (b ∷ bs) ≡ b ∷ before_first is_blank bs
 word_first b bs e = rw e (ap (λ k. take k (b ∷ bs)) (one_suc (position_or_len is_blank bs)))
 
--- the words of a text are those behind the blanks at its front
+-- the words of a text are those after the blanks at its front
 pub words_trim : (t : List ℕ) → words t ≡ words (trim_front t)
 unfolding words trim_front
 words_trim [] = refl
@@ -122,7 +122,7 @@ words_next b bs e = elim (cases_lt (position_or_len is_blank (b ∷ bs)) (length
       rw (w.before, w.after) (ap (filter (λ w. not (is_empty w))) w.one)
 ]
 
--- a text behind its blanks is empty or begins with none
+-- a text after its blanks is empty or begins with none
 pub trimmed : (t : List ℕ) (b : ℕ) (bs : List ℕ) → trim_front t ≡ b ∷ bs → is_blank b ≡ false
 unfolding trim_front
 trimmed [] b bs h = absurd (cc)
@@ -132,7 +132,7 @@ trimmed (x ∷ xs) b bs h = elim (cases_Bool (is_blank x)) [
       let same : x ≡ b = cc in rw same at e
 ]
 
--- the words of a text behind the blanks at its front
+-- the words of a text after the blanks at its front
 pub words_after : (t : List ℕ) → words (trim_front t) ≡ cond (is_empty (trim_front t)) [] (before_first is_blank (trim_front t) ∷ words (after_first is_blank (trim_front t)))
 words_after t = go (trim_front t) refl where
   go : (u : List ℕ) → trim_front t ≡ u → words u ≡ cond (is_empty u) [] (before_first is_blank u ∷ words (after_first is_blank u))

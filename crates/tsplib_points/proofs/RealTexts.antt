@@ -23,7 +23,7 @@ pub not_decimal : (text m : List ℕ) → m ≡ mantissa text → is_decimal m �
 unfolding is_real
 not_decimal text m e h = rw (rw e at h) refl
 
--- and behind it an exponent or none
+-- and after it an exponent or none
 pub not_exponent : (text u : List ℕ) (there : Bool) → there ≡ list_any is_power (unsigned text) → u ≡ exponent text → is_exponent there u ≡ false → is_real text ≡ false
 unfolding is_real
 not_exponent text u there t e h = rw (rw (t, e) at h) (and_right (is_decimal (mantissa text)) false refl)

@@ -51,7 +51,7 @@ is_none : (large : Bool) (q : Point) → None ≡ cond large None (Some q) → l
 is_none true q e = refl
 is_none false q e = cc
 
--- the next node, and those behind it
+-- the next node, and those after it
 next_first : (ns : List Node) (i : ℕ) → i < length ns → drop i ns ≡ get_or ns i nowhere ∷ drop (i + 1) ns
 next_first ns i h = let one : i + 1 ≡ suc i = omega arith in rw one (drop-cons ns i nowhere h)
 

@@ -19,7 +19,7 @@ use Rattle.tsplib_points.proofs.Pieces.{one_suc, words_trim, words_none}
 use Rattle.tsplib_points.proofs.Passes.{any_push, any_push_no, any_push_yes, all_zip_push}
 use Rattle.tsplib_points.proofs.Growth.{header_open, header_grows, header_ended, header_closed, dimension_stays, any_dimension_stays, dimension_same, dimension_first, nodes_ended, nodes_header, nodes_grow, nodes_stay}
 
--- a text of blanks is nothing behind them
+-- a text of blanks is nothing after them
 blank_trim : (t : List ℕ) → list_all is_blank t ≡ true → trim_front t ≡ []
 unfolding trim_front
 blank_trim [] h = refl
@@ -72,7 +72,7 @@ pub reason_blank : (before : List Line) (l : Line) → list_all is_blank l.text 
 unfolding line_reason
 reason_blank before l b = rw b refl
 
--- behind EOF
+-- after EOF
 pub reason_ended : (before : List Line) (l : Line) → list_all is_blank l.text ≡ false → list_any is_end before ≡ true → line_reason before l ≡ Some AfterEnd
 unfolding line_reason
 reason_ended before l b e = rw (b, e) refl
@@ -134,7 +134,7 @@ passes_nothing pass before l h n = record {
   numbers = λ q. rw (nodes_stay before l n.node) (h.numbers q);
 }
 
--- behind EOF
+-- after EOF
 pub passes_end : (pass : Pass) (before : List Line) (l : Line) → IsPassed pass before → is_end_mark (parts_of l.text) ≡ true
     → IsPassed (record { found = pass.found; has_end = true; numbers = pass.numbers }) (before ++ l ∷ [])
 unfolding is_end is_section
@@ -150,7 +150,7 @@ passes_end pass before l h i =
       numbers = λ q. rw (nodes_ended before l (inr i)) (h.numbers q);
     }
 
--- behind NODE_COORD_SECTION
+-- after NODE_COORD_SECTION
 pub passes_section : (pass : Pass) (before : List Line) (l : Line) → IsPassed pass before → pass.has_end ≡ false → pass.found.has_section ≡ false
     → is_end_mark (parts_of l.text) ≡ false → is_section_mark (parts_of l.text) ≡ true
     → IsPassed (record { found = record { has_section = true; dimension = pass.found.dimension; nodes = pass.found.nodes }; has_end = pass.has_end; numbers = pass.numbers }) (before ++ l ∷ [])
@@ -169,7 +169,7 @@ passes_section pass before l h e s i j =
       numbers = λ q. rw stay (h.numbers q);
     }
 
--- behind the first DIMENSION
+-- after the first DIMENSION
 pub passes_dimension : (pass : Pass) (before : List Line) (l : Line) (n : ℕ) → IsPassed pass before → pass.has_end ≡ false → pass.found.has_section ≡ false
     → is_some pass.found.dimension ≡ false
     → is_end_mark (parts_of l.text) ≡ false → is_section_mark (parts_of l.text) ≡ false → is_dimension_entry (parts_of l.text) ≡ true → small_number (parts_of l.text).value ≡ Some n

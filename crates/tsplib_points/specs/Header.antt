@@ -10,7 +10,7 @@ use Rattle.tsplib_points.specs.Reasons.{unless}
 abbrev pub is_colon : ℕ → Bool
 is_colon b = b == 58
 
--- A line of the header, cut at its first colon: the keyword before it and the value behind it, both without the blanks at
+-- A line of the header, cut at its first colon: the keyword before it and the value after it, both without the blanks at
 -- their ends, and whether there is a colon. Where there is none all of the line is the keyword.
 pub record Parts : Type 0 where
   pub keyword : List ℕ
@@ -71,7 +71,7 @@ entry_reason p =
     else if is_entry (codes "NODE_COORD_TYPE") p then unless (is_coord_type p.value) CoordType
     else Some Header
 
--- Why a line of the header fails, where it is known whether a DIMENSION came before. The coordinates come behind
+-- Why a line of the header fails, where it is known whether a DIMENSION came before. The coordinates come after
 -- DIMENSION, which comes once.
 unfoldable pub header_reason : Bool → Parts → Option Reason
 header_reason has_dimension p =
@@ -98,7 +98,7 @@ lines_to_end ls = before_first is_end ls
 unfoldable pub header_lines : List Line → List Line
 header_lines ls = before_first is_section (lines_to_end ls)
 
--- the lines of the section: those behind NODE_COORD_SECTION
+-- the lines of the section: those after NODE_COORD_SECTION
 unfoldable pub section_lines : List Line → List Line
 section_lines ls = after_first is_section (lines_to_end ls)
 

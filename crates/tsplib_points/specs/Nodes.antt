@@ -39,7 +39,7 @@ is_whole_node k n = is_whole k n.x && is_whole k n.y
 abbrev pub has_number : ℕ → Node → Bool
 has_number number n = n.number == number
 
--- why a line of the section fails, behind the nodes before it
+-- why a line of the section fails, after the nodes before it
 abbrev pub node_reason : List Node → Option Node → Option Reason
 node_reason before None = Some CoordLine
 node_reason before (Some n) =

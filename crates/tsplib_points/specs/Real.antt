@@ -23,11 +23,11 @@ abbrev pub unsigned : List ℕ → List ℕ
 unsigned [] = []
 unsigned (b ∷ bs) = if is_sign b then bs else b ∷ bs
 
--- what stands behind the sign up to the exponent
+-- what stands after the sign up to the exponent
 abbrev pub mantissa : List ℕ → List ℕ
 mantissa text = before_first is_power (unsigned text)
 
--- the exponent, behind its letter
+-- the exponent, after its letter
 abbrev pub exponent : List ℕ → List ℕ
 exponent text = after_first is_power (unsigned text)
 

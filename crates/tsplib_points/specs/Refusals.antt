@@ -14,8 +14,8 @@ use Rattle.tsplib_points.specs.Header.{is_end, is_section, is_dimension, parts_o
 use Rattle.tsplib_points.specs.Real.{size_times, times}
 use Rattle.tsplib_points.specs.Nodes.{Node, node_of, nodes, node_reason, is_whole_node}
 
--- Why a line fails, behind the lines before it. The header runs to the first NODE_COORD_SECTION and the file to the first
--- EOF, behind which only blank lines may come; a blank line is passed over wherever it stands.
+-- Why a line fails, after the lines before it. The header runs to the first NODE_COORD_SECTION and the file to the first
+-- EOF, after which only blank lines may come; a blank line is passed over wherever it stands.
 unfoldable pub line_reason : List Line → Line → Option Reason
 line_reason before l =
     if is_blank_line l then None
@@ -24,7 +24,7 @@ line_reason before l =
     else if is_end l then None
     else node_reason (nodes before) (node_of l)
 
--- the refusal of the first line that fails among the lines that are left, behind those before them
+-- the refusal of the first line that fails among the lines that are left, after those before them
 abbrev pub first_failing : List Line → List Line → Option Refusal
 first_failing before [] = None
 first_failing before (l ∷ rest) =

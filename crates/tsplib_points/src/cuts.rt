@@ -35,7 +35,7 @@ pub fn position_of_power(text: &[u8]) -> Option<usize>
     text.iter().position(|b| *b == b'e' || *b == b'E')
 }
 
-// What stands before a place, or all where there is none, and what stands behind it.
+// What stands before a place, or all where there is none, and what stands after it.
 pub fn cut_at(text: &[u8], place: Option<usize>) -> (&[u8], &[u8])
     requires { ForSome place (λ n. n < length text.now) }
     ensures before { (p : ℕ → Bool) → place ≡ position p text.now →

@@ -21,7 +21,7 @@ pub struct Refusal {
     pub line: u32,
 }
 
-/// Why there is no file: it is refused, or want of memory.
+/// Why there is no file: it is refused, or memory ran out.
 #[derive(Clone, Copy, Debug, PartialEq, Eq)]
 pub enum FileStop {
     Refused(Refusal),

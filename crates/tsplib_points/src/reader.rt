@@ -61,7 +61,7 @@ fn lawful(alloc: Global, list: PointList) -> Result<Points, FileStop>
 /// coordinates of an earlier one are dropped and counted.
 ///
 /// A file is refused for the first line that fails, from the top; where no line fails, for the first of
-/// the rules of the whole file that it breaks. Where neither, there is an answer, or want of memory.
+/// the rules of the whole file that it breaks. Where neither, there is an answer, or memory runs out.
 /// The time is linear in the bytes, but for sorting.
 pub fn read_points(alloc: Global, bytes: &Bytes) -> Result<File, FileStop>
     ensures file { IfOk result (λ file. IsFileOf bytes.now file) }

@@ -3,7 +3,8 @@ use Rattle.std.proofs.lemmas.Bool.{cases_lt}
 use Rattle.point_grid.specs.Frames.{IsInFrame}
 use Rattle.point_grid.specs.Tree.{HasFork}
 use Rattle.diamond_edges.specs.Rows.{Adds}
-use Rattle.diamond_edges.proofs.Walks.{Adds-none, Adds-parts, Adds-parts_back, Adds-skip, leaf_or_fork}
+use Rattle.point_grid.proofs.Entries.{leaf_or_fork}
+use Rattle.diamond_edges.proofs.Walks.{Adds-none, Adds-parts, Adds-parts_back, Adds-skip}
 use Rattle.diamond_edges.proofs.walk.+walk.Goals as goal
 
 pub returns-then-is_nearer-clause-added : goal.returns-then-is_nearer-clause-added

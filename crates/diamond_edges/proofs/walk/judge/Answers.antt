@@ -3,7 +3,8 @@ use Rattle.exact_predicates.specs.declared.diamond.Diamond.TheVariants.{On}
 use Rattle.point_grid.specs.declared.spot.Spot.{Spot}
 use Rattle.point_grid.specs.Tree.{HasLeaf}
 use Rattle.diamond_edges.specs.Rows.{IsNext}
-use Rattle.diamond_edges.proofs.Walks.{Adds-push, Adds-skip, entry_leaf, same_leaf}
+use Rattle.point_grid.proofs.Entries.{same_leaf}
+use Rattle.diamond_edges.proofs.Walks.{Adds-push, Adds-skip, entry_leaf}
 use Rattle.diamond_edges.proofs.walk.judge.Goals as goal
 use Rattle.diamond_edges.proofs.walk.judge.Goals.{in-Leaf-entry+then-a-spot+then-is_linked+in_ok-push, in-Leaf-entry+else-a-spot, else-a-spot-via-then-a-spot+else-is_linked, else-a-spot-via-else-a-spot, in_default-entry}
 

@@ -1,4 +1,4 @@
--- The next line of a file, and those behind it.
+-- The next line of a file, and those after it.
 use Rattle.std.proofs.Common.{◌<◌, length, arith, sym, ◌∙◌}
 use Rattle.std.proofs.lemmas.Grind.{common_steps}
 use Rattle.tsplib_points.proofs.Pieces.{texts_next, empty_texts, nothing}

@@ -1,4 +1,4 @@
--- The next word of a text, and those behind it.
+-- The next word of a text, and those after it.
 use Rattle.std.proofs.Common.{sym, ◌∙◌}
 use Rattle.tsplib_points.proofs.Pieces.{words_trim, words_after, nothing, something}
 use Rattle.tsplib_points.specs.Lines.{is_blank}
