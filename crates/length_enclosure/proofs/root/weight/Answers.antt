@@ -8,4 +8,4 @@ root_down-small n small = below-square (root_down n) (3 * 10 ^ 15) (omega (arith
 
 pub returns-clause-bound : goal.returns-clause-bound
 returns-clause-bound c =
-    omega (arith, root_down-small (10 ^ 12 * c.from.result) (omega (arith, c.from.ensures)), c.root_floor.ensures.value)
+    omega (arith, root_down-small (10 ^ 12 * c.from.result) (omega (arith, c.from.ensures)), c.root_between.ensures)
