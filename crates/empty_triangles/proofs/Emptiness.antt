@@ -1,7 +1,6 @@
 -- When a triangle over a list of edges is empty.
-use Rattle.std.proofs.Common.{◌≡◌, ◌≢◌, ◌↔◌, ℕ, ◌<◌, ◌≤◌, Bool, IsTrue, pos, ◌<ℤ◌, List, length, slice_index, Contains, Result, Ok, Err, is_ok, nat_cmp, ⊎_elim, sym, ◌∙◌, subst, arith}
+use Rattle.std.proofs.Common.{◌≡◌, ◌↔◌, ℕ, ◌<◌, ◌≤◌, Bool, IsTrue, List, length, slice_index, Contains, Result, Ok, Err, is_ok, nat_cmp, ⊎_elim, sym, ◌∙◌, arith}
 use Rattle.std.proofs.lemmas.Bool.{cases_lt}
-use Rattle.std.proofs.lemmas.Int.{ints}
 use Rattle.std.proofs.lemmas.List.{get_or_default}
 use Rattle.std.proofs.lemmas.List.Sorted.{searched}
 use Rattle.std.specs.List.Sorted.{IsBinarySearchResult}
@@ -9,8 +8,6 @@ use Rattle.exact_predicates.specs.declared.edge.Edge.{Edge}
 use Rattle.exact_predicates.specs.declared.point.Point.{Point}
 use Rattle.exact_predicates.specs.declared.tri.Tri.{Tri}
 use Rattle.exact_predicates.specs.Candidates.{HasEdge, IsEmptyOver}
-use Rattle.exact_predicates.specs.Plane.{orient}
-use Rattle.exact_predicates.specs.PointSet.{point_at}
 use Rattle.exact_predicates.proofs.Equalities.{HasEdge-comm}
 use Rattle.empty_triangles.specs.Enumeration.{IsBare, IsThird}
 

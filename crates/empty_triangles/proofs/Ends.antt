@@ -1,128 +1,127 @@
--- Places in an ascending list of edges.
-use Rattle.std.proofs.Common.{◌≡◌, ℕ, ◌+◌, ◌-◌, ◌<◌, ◌≤◌, ◌↔◌, Bool, true, false, IsTrue, eqb, ◌&&◌, Decides, Option, Some, None, IfSome, is_some, List, length, get_or, map, take, drop, AllPairs, Contains, inl, inr, ⊎_elim, arith, refl, sym, ap, ◌∙◌, subst}
+-- Where the edges of each lesser end stand in an ascending list.
+use Rattle.std.proofs.Common.{◌≡◌, ℕ, ◌+◌, ◌-◌, ◌<◌, ◌≤◌, ◌↔◌, IsTrue, min, Option, Some, None, IfSome, is_some, List, [], ◌∷◌, ◌++◌, length, get_or, slice_index, take, drop, AllPairs, ⊎_elim, arith, refl, sym, ap, ◌∙◌, subst}
 use Rattle.std.proofs.lemmas.Bool.{cases_lt}
-use Rattle.std.proofs.lemmas.Bool.Decides.{Decides-or, Decides-and, Decides-ltb, Decides-eqb, Decides-at, not_from_Decides}
-use Rattle.std.proofs.lemmas.List.{get_or_default, get_or-map, get_or-take, get_or-drop, length-map, length-take, length-drop}
-use Rattle.std.specs.List.Sorted.{IsPartitionedBy}
-use Rattle.std.specs.List.{AllWithin, HoldsAt}
+use Rattle.std.proofs.lemmas.List.{get_or_default, get_or-take, get_or-drop, get_or_append_left, get_or_push, length-take, length-drop, length_push}
+use Rattle.std.specs.List.{HoldsAt}
 use Rattle.exact_predicates.specs.declared.edge.Edge.{Edge}
-use Rattle.exact_predicates.specs.Candidates.{EdgePrecedes, IsEdgeBefore, Joins, HasEdge}
-use Rattle.exact_predicates.proofs.Equalities.{HasEdge-Contains, Contains-HasEdge}
-use Rattle.empty_triangles.specs.Enumeration.{is_edge_before, IsPlaceOf, IsRow}
+use Rattle.exact_predicates.specs.Candidates.{EdgePrecedes, Joins, HasEdge}
+use Rattle.empty_triangles.specs.Enumeration.{IsStartOf, IsRow}
 
-Decides-is_edge_before : (a b : ℕ) (e : Edge) → Decides (is_edge_before a b e) (IsEdgeBefore a b e)
-Decides-is_edge_before a b e = Decides-or _ _ (Decides-ltb e.a a) (Decides-and _ _ (Decides-eqb e.a a) (Decides-ltb e.b b))
-
--- what precedes an edge that comes before another does too
-before_trans : (a b : ℕ) (e f : Edge) → EdgePrecedes e f → IsEdgeBefore a b f → IsEdgeBefore a b e
-before_trans a b e f h k =
-    ⊎_elim
-    (λ l. ⊎_elim (λ m. inl (omega arith)) (λ r. let r0 = r.0 in inl (omega arith)) k)
-    (λ s. let s0 = s.0 in let s1 = s.1 in ⊎_elim (λ m. inl (omega arith)) (λ r. let r0 = r.0 in let r1 = r.1 in inr (omega arith, omega arith)) k)
-    h
-
-pub partitioned : (es : List Edge) → AllPairs EdgePrecedes es → (a b : ℕ) → IsPartitionedBy (is_edge_before a b) es
-partitioned es up a b = λ i j d l j_in h.
-    ⊎_elim
-    (λ m. (Decides-is_edge_before a b (get_or es i d)).1 (before_trans a b (get_or es i d) (get_or es j d) (up i j d m j_in) ((Decides-is_edge_before a b (get_or es j d)).0 h)))
-    (λ m. let e : j ≡ i = omega arith in subst (λ (k : ℕ). is_edge_before a b (get_or es k d) ≡ true) e h)
-    (cases_lt i j)
-
-pub IsPlaceOf-partition : (es : List Edge) (a b k : ℕ) → k ≤ length es
-    → AllWithin (λ e. is_edge_before a b e ≡ true) es 0 k → AllWithin (λ e. is_edge_before a b e ≡ false) es k (length es) → IsPlaceOf es a b k
-IsPlaceOf-partition es a b k l before after = record {
-  within = l;
-  before = λ i d m. (Decides-is_edge_before a b (get_or es i d)).0 (before i d (omega arith) m);
-  after = λ i d m n. not_from_Decides _ (Decides-is_edge_before a b (get_or es i d)) (after i d m n);
+-- where one edge has the lesser end a or a greater one, so have all after it
+pub IsStartOf-here : (es : List Edge) (place a : ℕ) → AllPairs EdgePrecedes es → place ≤ length es → ((i : ℕ) (d : Edge) → i < place → (get_or es i d).a < a) → (place < length es → (d : Edge) → a ≤ (get_or es place d).a) → IsStartOf es a place
+IsStartOf-here es place a up within before here = record {
+  within = within;
+  before = before;
+  after = λ i d low i_in.
+      ⊎_elim
+      (λ (l : place < i). let least = here (omega arith) d in ⊎_elim (λ m. omega (arith, least, m)) (λ m. omega (arith, least, m.0)) (up place i d l i_in))
+      (λ (l : i ≤ place). let same : place ≡ i = omega arith in subst (λ (j : ℕ). a ≤ (get_or es j d).a) same (here (omega arith) d))
+      (cases_lt place i);
 }
 
--- the edges of a row stand together
-pub row_rises : (es : List Edge) (a from to : ℕ) → IsPlaceOf es a 0 from → IsPlaceOf es (a + 1) 0 to → from ≤ to
-row_rises es a from to p q =
-    ⊎_elim
-    (λ l. let m = p.within in
-    let some : Edge = record { a = 0; b = 1; ascending = omega arith } in
-    absurd (q.after to some (omega arith) (omega arith)
-    (⊎_elim (λ h. inl (omega arith)) (λ r. let r1 = r.1 in absurd (omega arith)) (p.before to some l))))
-    (λ h. h)
-    (cases_lt to from)
+-- the starts of the numbers below a, and a place before which all edges have such a lesser end
+pub record AreStartsBelow (es : List Edge) (a place : ℕ) (starts : List ℕ) : Type 0 where
+  pub place_in : place ≤ length es
+  pub below : (i : ℕ) (d : Edge) → i < place → (get_or es i d).a < a
+  pub count : length starts ≡ a
+  pub each : (k : ℕ) → k < length starts → IsStartOf es k (slice_index starts k)
 
--- the part of the list between two places
-abbrev pub part : List Edge → ℕ → ℕ → List Edge
-part es from to = take (to - from) (drop from es)
+-- one more start
+pub AreStartsBelow-push : (es : List Edge) (a place next : ℕ) (starts : List ℕ) → AreStartsBelow es a place starts → IsStartOf es a next → AreStartsBelow es (a + 1) next (starts ++ next ∷ [])
+AreStartsBelow-push es a place next starts h s =
+    let n = h.count in
+    let long = length_push starts next in
+    record {
+      place_in = s.within;
+      below = λ i d l. let m = s.before i d l in omega arith;
+      count = omega arith;
+      each = λ k k_in. ⊎_elim
+          (λ (low : k < a). subst (λ (x : ℕ). IsStartOf es k x) (sym (get_or_append_left starts (next ∷ []) 0 k (omega arith))) (h.each k (omega arith)))
+          (λ (high : a ≤ k).
+          let same : a ≡ k = omega arith in
+          subst (λ (x : ℕ). IsStartOf es k x) (sym (get_or_push starts next 0 k (omega arith))) (subst (λ (b : ℕ). IsStartOf es b next) same s))
+          (cases_lt k a);
+    }
 
--- which is the row
-pub IsRow-part : (es : List Edge) (a from to : ℕ) (row : List ℕ) → AllPairs EdgePrecedes es → IsPlaceOf es a 0 from → IsPlaceOf es (a + 1) 0 to → row ≡ map (λ e. e.b) (part es from to) → IsRow es a row
-IsRow-part es a from to row up p q is =
-    subst (IsRow es a) (sym is)
-    (record {
-      ascending = λ i j c l j_in.
-          let j_to = inside j j_in in
-          rw (read i c (omega arith), read j c j_to) (higher i j l j_to);
-      each = λ k c k_in.
-          let k_to = inside k k_in in
-          rw (read k c k_to) (here k k_to);
-      all = λ b l h. found b l h;
-    })
-  where
-    some : Edge
-    some = record { a = 0; b = 1; ascending = omega arith }
+-- the edges with one lesser end stand together
+module _ (es : List Edge) (a from to : ℕ) (p : IsStartOf es a from) (q : IsStartOf es (a + 1) to) where
+  pub row_rises : from ≤ to
+  row_rises =
+      let some : Edge = record { a = 0; b = 1; ascending = omega arith } in
+      let m = p.within in
+      ⊎_elim (λ l. let below = p.before to some l in let above = q.after to some (omega arith) (omega arith) in absurd (omega arith)) (λ l. l) (cases_lt to from)
 
-    size : length (part es from to) ≡ to - from
-    size = let m = p.within in let n = q.within in let r = row_rises es a from to p q in omega (arith, length-take (to - from) (drop from es), length-drop from es)
+  lesser_end : (k : ℕ) (d : Edge) → from ≤ k → k < to → (get_or es k d).a ≡ a
+  lesser_end k d low high =
+      let m = q.within in
+      let least = p.after k d low (omega arith) in
+      let most = q.before k d high in
+      omega arith
 
-    inside : (k : ℕ) → k < length (map (λ (e : Edge). e.b) (part es from to)) → k < to - from
-    inside k l = omega (arith, size, length-map (part es from to) (λ (e : Edge). e.b), l)
+  placed : (k : ℕ) (e : Edge) → k < length es → get_or es k e ≡ e → e.a ≡ a → (from ≤ k) × (k < to)
+  placed k e k_in at_k is =
+      let here : (get_or es k e).a ≡ a = ap (λ (x : Edge). x.a) at_k ∙ is in (
+        ⊎_elim (λ l. let below = p.before k e l in absurd (omega arith)) (λ l. l) (cases_lt k from),
+        ⊎_elim (λ l. l) (λ l. let above = q.after k e l k_in in absurd (omega arith)) (cases_lt k to),
+      )
 
-    read : (k c : ℕ) → k < to - from → get_or (map (λ (e : Edge). e.b) (part es from to)) k c ≡ (get_or es (from + k) some).b
-    read k c l =
-        get_or-map (λ (e : Edge). e.b) (part es from to) k some c (omega (arith, size))
-        ∙ ap (λ (e : Edge). e.b) (get_or-take (to - from) (drop from es) k some l ∙ get_or-drop from es k some)
+  -- their greater ends, in this order, are the row
+  pub IsRow-read : (row : List ℕ) → AllPairs EdgePrecedes es → length row + from ≡ to → ((k c : ℕ) (d : Edge) → k < length row → get_or row k c ≡ (get_or es (from + k) d).b) → IsRow es a row
+  IsRow-read row up count read =
+      let m = q.within in
+      let some : Edge = record { a = 0; b = 1; ascending = omega arith } in
+      record {
+        ascending = λ i j c l j_in.
+            let fi = lesser_end (from + i) some (omega arith) (omega arith) in
+            let fj = lesser_end (from + j) some (omega arith) (omega arith) in
+            rw (read i c some (omega arith), read j c some j_in) (⊎_elim (λ h. absurd (omega arith)) (λ r. r.1) (up (from + i) (from + j) some (omega arith) (omega arith)));
+        each = λ k c k_in.
+            let e = get_or es (from + k) some in
+            let f = lesser_end (from + k) some (omega arith) (omega arith) in
+            let rises = e.ascending in
+            rw (read k c some k_in)
+            (omega arith, (from + k, e, omega arith, get_or_default es (from + k) e some (omega arith), (omega arith, omega arith)));
+        all = λ b l (k, e, k_in, at_k, j).
+            let ea : e.a ≡ a = omega (arith, j.0) in
+            let eb : e.b ≡ b = omega (arith, j.1) in
+            let here = placed k e k_in at_k ea in
+            let low = here.0 in
+            let high = here.1 in
+            let back : from + (k - from) ≡ k = omega arith in
+            (k - from, omega arith, read (k - from) b e (omega arith) ∙ (ap (λ i. (get_or es i e).b) back ∙ (ap (λ (x : Edge). x.b) at_k ∙ eb)));
+      }
 
-    first : (k : ℕ) → k < to - from → (get_or es (from + k) some).a ≡ a
-    first k l =
-        let m = q.within in
-        let not_less = p.after (from + k) some (omega arith) (omega arith) in
-        ⊎_elim
-        (λ h. ⊎_elim (λ r. absurd (not_less (inl r))) (λ r. omega arith) (cases_lt (get_or es (from + k) some).a a))
-        (λ r. let r1 = r.1 in absurd (omega arith))
-        (q.before (from + k) some (omega arith))
+  -- the part of the list between them
+  abbrev part : List Edge
+  part = take (to - from) (drop from es)
 
-    higher : (i j : ℕ) → i < j → j < to - from → (get_or es (from + i) some).b < (get_or es (from + j) some).b
-    higher i j l m =
-        let n = q.within in
-        let fi = first i (omega arith) in
-        let fj = first j m in
-        ⊎_elim (λ h. absurd (omega arith)) (λ r. r.1) (up (from + i) (from + j) some (omega arith) (omega arith))
+  length_part : from + length part ≡ to
+  length_part = let m = q.within in let r = row_rises in omega (arith, length-take (to - from) (drop from es), length-drop from es)
 
-    here : (k : ℕ) → k < to - from → (a < (get_or es (from + k) some).b) × HasEdge es a (get_or es (from + k) some).b
-    here k l =
-        let n = q.within in
-        let e = get_or es (from + k) some in
-        let f = first k l in
-        let m = e.ascending in
-        (omega arith, (from + k, e, omega arith, get_or_default es (from + k) e some (omega arith), (omega arith, omega arith)))
+  read_part : (k : ℕ) (d : Edge) → from + k < to → get_or part k d ≡ get_or es (from + k) d
+  read_part k d l = get_or-take (to - from) (drop from es) k d (omega arith) ∙ get_or-drop from es k d
 
-    found : (b : ℕ) → a < b → HasEdge es a b → Contains (map (λ (e : Edge). e.b) (part es from to)) b
-    found b l (m, e, m_in, at_m, j) =
-        let ea : e.a ≡ a = omega (arith, j.0) in
-        let eb : e.b ≡ b = omega (arith, j.1) in
-        let n = q.within in
-        let late : from ≤ m = ⊎_elim
-        (λ h. absurd (⊎_elim (λ r. omega arith) (λ r. let r1 = r.1 in omega arith) (subst (IsEdgeBefore a 0) at_m (p.before m e h))))
-        (λ h. h)
-        (cases_lt m from) in
-        let early : m < to = ⊎_elim
-        (λ h. h)
-        (λ h. absurd (q.after m e h m_in (subst (IsEdgeBefore (a + 1) 0) (sym at_m) (inl (omega arith)))))
-        (cases_lt m to) in
-        let back : from + (m - from) ≡ m = omega arith in
-        let same : get_or es (from + (m - from)) some ≡ e = ap (λ i. get_or es i some) back ∙ (get_or_default es m some e m_in ∙ at_m) in
-        (m - from, omega (arith, size, length-map (part es from to) (λ (x : Edge). x.b)), read (m - from) b (omega arith) ∙ (ap (λ (x : Edge). x.b) same ∙ eb))
+  pub AllPairs-part : AllPairs EdgePrecedes es → AllPairs EdgePrecedes part
+  AllPairs-part up = λ i j d l j_in.
+      let long = length_part in
+      let m = q.within in
+      rw (read_part i d (omega arith), read_part j d (omega arith)) (up (from + i) (from + j) d (omega arith) (omega arith))
 
--- whether an edge is found
-pub HasEdge-found : (es : List Edge) (u v : ℕ) (r : Option ℕ) → IfSome r (λ k. k < length es) → IfSome r (HoldsAt (λ e. Joins e u v) es) → (r ≡ None → ¬ HasEdge es u v) → IsTrue (is_some r) ↔ HasEdge es u v
-HasEdge-found es u v None within joins none = (λ t. absurd (cc), λ h. absurd (none refl h))
-HasEdge-found es u v (Some k) within joins none =
-    let some : Edge = record { a = 0; b = 1; ascending = omega arith } in
-    (λ _. (k, get_or es k some, within, get_or_default es k (get_or es k some) some within, joins some), λ _. refl)
+  -- an edge with this lesser end is listed where it stands in the part
+  pub HasEdge-found : (u v : ℕ) (r : Option ℕ) → a ≡ min u v → IfSome r (λ k. k < length part) → IfSome r (HoldsAt (λ e. Joins e u v) part) → (r ≡ None → ¬ HasEdge part u v) → IsTrue (is_some r) ↔ HasEdge es u v
+  HasEdge-found u v None lesser within joins none = (
+    λ t. absurd (cc),
+    λ (k, e, k_in, at_k, j).
+        let here = placed k e k_in at_k (j.0 ∙ sym lesser) in
+        let low = here.0 in
+        let high = here.1 in
+        let long = length_part in
+        let back : from + (k - from) ≡ k = omega arith in
+        absurd (none refl (k - from, e, omega arith, read_part (k - from) e (omega arith) ∙ (ap (λ i. get_or es i e) back ∙ at_k), j)),
+  )
+  HasEdge-found u v (Some k) lesser within joins none =
+      let some : Edge = record { a = 0; b = 1; ascending = omega arith } in
+      let long = length_part in
+      let m = q.within in
+      let e = get_or es (from + k) some in
+      (λ _. (from + k, e, omega arith, get_or_default es (from + k) e some (omega arith), subst (λ (x : Edge). Joins x u v) (read_part k some (omega arith)) (joins some)), λ _. refl)

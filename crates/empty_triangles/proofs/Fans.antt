@@ -10,7 +10,7 @@ use Rattle.exact_predicates.proofs.Between.{IsBetween-from_order}
 use Rattle.exact_predicates.proofs.HalfPlane.{left_turn_strict}
 use Rattle.exact_predicates.proofs.Line.{orient-same_line_left, orient-same_line_right}
 use Rattle.exact_predicates.proofs.Numbers.{IsOrdered, IsOrdered-points, IsBetween-numbers}
-use Rattle.exact_predicates.proofs.Orientation.{orient_turned, orient_swapped, orient_swapped_last, orient_last_twice, orient_return}
+use Rattle.exact_predicates.proofs.Orientation.{orient_turned, orient_swapped_last, orient_last_twice, orient_return}
 use Rattle.point_grid.specs.Directions.{Sees}
 use Rattle.empty_triangles.specs.Enumeration.{IsBare}
 use Rattle.empty_triangles.specs.Rays.{IsOnRay, AreTurning, IsSeen}

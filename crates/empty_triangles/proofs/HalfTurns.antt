@@ -1,9 +1,9 @@
 -- Turns that all stay in one half turn.
-use Rattle.std.proofs.Common.{◌≡◌, ℤ, pos, ◌+ℤ◌, ◌-ℤ◌, ◌*ℤ◌, ◌≤ℤ◌, ◌<ℤ◌, arith, [], ◌∷◌, sym, subst, ◌∙◌}
+use Rattle.std.proofs.Common.{◌≡◌, ℤ, pos, ◌-ℤ◌, ◌≤ℤ◌, ◌<ℤ◌, arith, [], ◌∷◌, sym, subst, ◌∙◌}
 use Rattle.std.proofs.lemmas.Int.{ints}
 use Rattle.exact_predicates.specs.declared.point.Point.{Point}
 use Rattle.exact_predicates.specs.Plane.{orient}
-use Rattle.exact_predicates.proofs.Ring.{var, plus, less, times, ring}
+use Rattle.exact_predicates.proofs.Ring.{var, less, times, ring}
 use Rattle.exact_predicates.proofs.Orientation.{coordinates, orient_term, orient_turned}
 use Rattle.exact_predicates.proofs.HalfPlane.{cross, cross_onward, cross_swap, orient_at_second, orient_back}
 

@@ -5,5 +5,6 @@ pub mod Fans
 pub mod HalfTurns
 pub mod Heads
 pub mod Lists
+pub mod Passes
 pub mod Seen
 pub mod Thirds

@@ -1,15 +1,14 @@
 -- The empty triangles, listed in their order.
-use Rattle.std.proofs.Common.{◌≡◌, ◌≢◌, ◌⊎◌, ℕ, ◌+◌, ◌-◌, ◌<◌, ◌≤◌, List, [], ◌++◌, length, slice_index, get_or, All, AllPairs, Contains, inl, inr, ⊎_elim, refl, arith, sym, ◌∙◌, ap, subst, length-append}
+use Rattle.std.proofs.Common.{◌≡◌, ◌≢◌, ◌⊎◌, ℕ, ◌+◌, ◌*◌, ◌<◌, ◌≤◌, List, [], ◌∷◌, ◌++◌, append_assoc, append-nil, refl, length, slice_index, get_or, All, AllPairs, Contains, inl, inr, ⊎_elim, arith, sym, ◌∙◌, ap, subst}
 use Rattle.std.proofs.lemmas.Bool.{cases_lt}
-use Rattle.std.proofs.lemmas.List.{get_or_default, get_or_append_left, get_or-append_right}
-use Rattle.std.proofs.lemmas.List.Elements.{All-append, All-weaker, Contains-append_left, Contains-append_right}
+use Rattle.std.proofs.lemmas.List.{get_or_default, get_or_append_left, get_or_push, length_push}
 use Rattle.exact_predicates.specs.declared.edge.Edge.{Edge}
 use Rattle.exact_predicates.specs.declared.point.Point.{Point}
 use Rattle.exact_predicates.specs.declared.tri.Tri.{Tri}
 use Rattle.exact_predicates.specs.Candidates.{TriPrecedes, HasEdge, IsEmptyOver, AreTrianglesOver, AreMoreThan}
 use Rattle.exact_predicates.proofs.Equalities.{Tri-equal}
 use Rattle.point_grid.proofs.Listings.{listing_append, listing_more, listing_none, listing_same}
-use Rattle.empty_triangles.specs.Enumeration.{IsRow, IsFan, AreThirds, AreTrianglesWith}
+use Rattle.empty_triangles.specs.Enumeration.{IsRow, IsFan, IsFanAdded, AreThirds, AreTrianglesWith, IsBefore, group_of}
 use Rattle.empty_triangles.proofs.Emptiness.{IsEmptyOver-third, IsThird-empty}
 
 -- t has the first corner a, and the second at a place of the row before i
@@ -26,14 +25,66 @@ HasEdge-within es n a b within up (m, e, m_in, at_m, j) =
     let is = ap (λ (x : Edge). x.b) at_m in
     omega (arith, j.1)
 
+-- an earlier group comes first
+pub earlier : (s t : Tri) → group_of s < group_of t → TriPrecedes s t
+earlier s t l = inl (omega arith)
+
+-- the triangles of a fan with the first i third corners
+pub record IsFanTo (a b : ℕ) (cs : List ℕ) (i : ℕ) (fan : List Tri) : Type 0 where
+  pub count : length fan ≡ i
+  pub each : (k : ℕ) (d : Tri) → k < length fan → let t = get_or fan k d in (t.a ≡ a) × (t.b ≡ b) × (t.c ≡ slice_index cs k)
+
+-- come after the old ones
+abbrev pub IsFanAddedTo : ℕ → ℕ → List ℕ → ℕ → List Tri → List Tri → Type 0
+IsFanAddedTo a b cs i old new = (fan : List Tri) × (new ≡ old ++ fan) × IsFanTo a b cs i fan
+
+pub IsFanAddedTo-none : (a b : ℕ) (cs : List ℕ) (old : List Tri) → IsFanAddedTo a b cs 0 old old
+IsFanAddedTo-none a b cs old = ([], sym (append-nil old), record { count = refl; each = λ k d l. absurd (omega arith) })
+
+pub IsFanAddedTo-push : (a b : ℕ) (cs : List ℕ) (i : ℕ) (old new : List Tri) (t : Tri) → t.a ≡ a → t.b ≡ b → t.c ≡ slice_index cs i → IsFanAddedTo a b cs i old new → IsFanAddedTo a b cs (i + 1) old (new ++ t ∷ [])
+IsFanAddedTo-push a b cs i old new t ea eb ec (fan, is, h) =
+    let n = h.count in
+    let long = length_push fan t in (
+      fan ++ t ∷ [],
+      ap (λ xs. xs ++ t ∷ []) is ∙ append_assoc old fan (t ∷ []),
+      record {
+        count = omega arith;
+        each = λ k d l. ⊎_elim
+            (λ m. rw (get_or_append_left fan (t ∷ []) d k m) (h.each k d m))
+            (λ m. let e : length fan ≡ k = omega arith in let same : i ≡ k = omega arith in rw (get_or_push fan t d k e) (ea, eb, ec ∙ ap (slice_index cs) same))
+            (cases_lt k (length fan));
+      },
+    )
+
+-- all of them are there
+pub IsFanAdded-all : (a b : ℕ) (cs : List ℕ) (i : ℕ) (old new : List Tri) → length cs ≤ i → i ≤ length cs → IsFanAddedTo a b cs i old new → IsFanAdded a b cs old new
+IsFanAdded-all a b cs i old new past within (fan, is, h) = record { fan = fan; is = is; each = record { count = let n = h.count in omega arith; each = h.each } }
+
 module _ (ps : List Point) (es : List Edge) where
   -- at last
-  pub with_all : (a : ℕ) (ts : List Tri) → length ps ≤ a → AreTrianglesWith ps es (λ t. t.a < a) ts → AreTrianglesOver ps es ts
-  with_all a ts past h = record {
+  pub with_all : (groups : ℕ) (ts : List Tri) → length ps ≤ 8 * groups → AreTrianglesWith ps es (λ t. group_of t < groups) ts → AreTrianglesOver ps es ts
+  with_all groups ts past h = record {
     ascending = h.ascending;
     each = h.each;
     all = λ t e. let a_in = e.empty.a_in in h.all t (omega arith) e;
   }
+
+  -- the first corners of a group: at first, one more, and all of them
+  pub with_no_corner : (group a : ℕ) → a ≤ 8 * group → AreTrianglesWith ps es (IsBefore group a) []
+  with_no_corner group a first = listing_none Tri TriPrecedes (IsEmptyOver ps es) (IsBefore group a) (λ t p. let p0 = p.0 in let p1 = p.1 in omega arith)
+
+  pub with_next_corner : (group a : ℕ) (ts us : List Tri) → 8 * group ≤ a → a < 8 * group + 8 → AreTrianglesWith ps es (IsBefore group a) ts → AreTrianglesWith ps es (λ t. t.a ≡ a) us → AreTrianglesWith ps es (IsBefore group (a + 1)) (ts ++ us)
+  with_next_corner group a ts us low high h k =
+      listing_same Tri TriPrecedes (IsEmptyOver ps es) (λ t. IsBefore group a t ⊎ (t.a ≡ a)) (IsBefore group (a + 1)) (ts ++ us)
+      (λ t. ⊎_elim (λ p. let p1 = p.1 in (p.0, omega arith)) (λ e. (omega arith, omega arith)))
+      (λ t e p. let p1 = p.1 in ⊎_elim (λ l. inl (p.0, l)) (λ l. inr (omega arith)) (cases_lt t.a a))
+      (listing_append Tri TriPrecedes (IsEmptyOver ps es) (IsBefore group a) (λ t. t.a ≡ a) ts us h k (λ s t p e. let p1 = p.1 in inl (omega arith)))
+
+  pub with_all_corners : (group a : ℕ) (ts : List Tri) → (a < 8 * group + 8 → length ps ≤ a) → AreTrianglesWith ps es (IsBefore group a) ts → AreTrianglesWith ps es (λ t. group_of t ≡ group) ts
+  with_all_corners group a ts past h =
+      listing_same Tri TriPrecedes (IsEmptyOver ps es) (IsBefore group a) (λ t. group_of t ≡ group) ts (λ t p. p.0)
+      (λ t e p. let a_in = e.empty.a_in in (p, ⊎_elim (λ l. let m = past l in omega arith) (λ l. omega arith) (cases_lt a (8 * group + 8))))
+      h
 
   -- the fans of a first corner: at first, and one more
   pub with_no_fan : (a : ℕ) (row : List ℕ) → AreTrianglesWith ps es (IsFromFan a row 0) []

@@ -1,5 +1,5 @@
--- What a place sees next is seen from the last one that it sees.
-use Rattle.std.proofs.Common.{◌≡◌, ℕ, zero, suc, ◌+◌, ◌<◌, ◌≤◌, pos, ◌<ℤ◌, Some, None, Vec, Global, List, [], ◌∷◌, ◌++◌, length, slice_index, get_or, All, AllPairs, Contains, ⊎_elim, arith, sym, ap, ◌∙◌, subst, length-append}
+-- What a place sees next: it is ahead of the last one that it sees, and seen from there.
+use Rattle.std.proofs.Common.{◌≡◌, ℕ, zero, suc, ◌+◌, ◌<◌, ◌≤◌, pos, ◌≤ℤ◌, ◌<ℤ◌, Some, None, Vec, Global, List, [], ◌∷◌, ◌++◌, length, slice_index, get_or, All, AllPairs, Contains, ⊎_elim, arith, sym, ap, ◌∙◌, subst, length-append}
 use Rattle.std.proofs.lemmas.Bool.{cases_lt, cases_order}
 use Rattle.std.proofs.lemmas.Int.{ints, by_lt_z}
 use Rattle.std.proofs.lemmas.List.{get_or_default, get_or_append_left, get_or_push}
@@ -9,6 +9,7 @@ use Rattle.exact_predicates.specs.declared.point.Point.{Point}
 use Rattle.exact_predicates.specs.Plane.{orient}
 use Rattle.exact_predicates.specs.PointSet.{point_at}
 use Rattle.exact_predicates.proofs.HalfPlane.{left_turn_strict}
+use Rattle.exact_predicates.proofs.Orientation.{orient_swapped_last}
 use Rattle.empty_triangles.specs.Rays.{AreTurning, IsAhead, IsSeen, AreSeen, AreLists, IsNext}
 use Rattle.empty_triangles.proofs.HalfTurns.{ahead_rises, ahead_back, ahead_through}
 
@@ -75,6 +76,24 @@ module _ (ps : List Point) (a : ℕ) (heads : List ℕ) (t : AreTurning ps a hea
 
   not_seen : (j k m : ℕ) → k < j → m < k → (¬ IsAhead ps heads j k m) → ¬ IsSeen ps heads m j
   not_seen j k m k_j m_k no_ h = no_ (h.past k m_k k_j)
+
+  -- the next one that is ahead of the last one that j sees, is seen; all between are behind
+  pub seen_after : (j k i : ℕ) → j < length heads → IsSeen ps heads k j → i < k → IsAhead ps heads j k i → ((x : ℕ) → i < x → x < k → ¬ IsAhead ps heads j k x) → IsSeen ps heads i j
+  seen_after j k i j_in hk i_k ahead none =
+      let k_j = hk.before in
+      record {
+        before = omega arith;
+        past = λ m up m_in.
+            let onward : pos 0 ≤ℤ orient (P j) (P m) (P k) → IsAhead ps heads j m i =
+            λ l. left_turn_strict (point_at ps a) (P j) (P m) (P k) (P i) (turns m j m_in j_in) (turns k j k_j j_in) (turns i j (omega arith) j_in) l ahead in
+            ⊎_elim
+            (λ e. subst (λ (x : ℕ). IsAhead ps heads j x i) (sym e) ahead)
+            (λ c. ⊎_elim
+            (λ below. let behind = by_lt_z (pos 0) (orient (P j) (P k) (P m)) (λ l. absurd (none m up below l)) (λ l. l) in onward (omega (arith, ints, behind, orient_swapped_last (P j) (P k) (P m))))
+            (λ above. let next = hk.past m above m_in in onward (omega (arith, ints, next)))
+            c)
+            (cases_order m k);
+      }
 
   module _ (j k : ℕ) (places : List ℕ) (at : ℕ) (j_in : j < length heads) (hk : IsSeen ps heads k j) (p : AreSeen ps heads k places)
       (before : (s : ℕ) → s < at → ¬ IsAhead ps heads j k (slice_index places s)) (after : (s : ℕ) → at ≤ s → s < length places → IsAhead ps heads j k (slice_index places s)) where

@@ -20,7 +20,7 @@ pub record Widens (w : Window) (b : ℕ) (p : Point) (w' : Window) : Type 0 wher
   pub below : p.y ≤ℤ w'.high
   pub least : (w'.to ≡ w.to) ⊎ (w'.to ≡ b + 1)
 
--- the window begins behind the point a, is as high as to it, and has these points
+-- the window begins after the point a, is as high as to it, and has these points
 pub record IsAround (ps : List Point) (a : ℕ) (numbers : List ℕ) (w : Window) : Type 0 where
   pub from : w.from ≡ a + 1
   pub to : w.to ≤ length ps

@@ -1,22 +1,23 @@
 -- The empty triangles over a list of edges, as far as they are enumerated.
-use Rattle.std.specs.Prelude.{◌≡◌, ◌⊎◌, ℕ, ◌+◌, ◌<◌, ◌≤◌, ◌==◌, nat_lt, Bool, ◌&&◌, ◌||◌, List, length, slice_index, slice_index_or, All, AllPairs, Contains, pos, ◌<ℤ◌}
+use Rattle.std.specs.Prelude.{◌≡◌, ◌⊎◌, ℕ, ◌+◌, ◌*◌, ◌/◌, ◌<◌, ◌≤◌, List, ◌++◌, length, slice_index, slice_index_or, All, AllPairs, Contains, pos, ◌<ℤ◌}
 use Rattle.exact_predicates.specs.declared.edge.Edge.{Edge}
 use Rattle.exact_predicates.specs.declared.point.Point.{Point}
 use Rattle.exact_predicates.specs.declared.tri.Tri.{Tri}
 use Rattle.exact_predicates.specs.Plane.{orient, IsInClosedTriangle}
 use Rattle.exact_predicates.specs.PointSet.{point_at}
-use Rattle.exact_predicates.specs.Candidates.{EdgePrecedes, IsEdgeBefore, TriPrecedes, HasEdge, IsEmptyOver}
+use Rattle.exact_predicates.specs.Candidates.{EdgePrecedes, TriPrecedes, HasEdge, IsEmptyOver}
 use Rattle.point_grid.specs.Listing.{IsListing}
 
--- whether e comes before the edge with the ends a and b
-abbrev pub is_edge_before : ℕ → ℕ → Edge → Bool
-is_edge_before a b e = nat_lt e.a a || ((e.a == a) && nat_lt e.b b)
-
--- the edges before the place k are those before the edge with the ends a and b
-pub record IsPlaceOf (es : List Edge) (a b k : ℕ) : Type 0 where
+-- the edges before the place k are those with lesser ends below a
+pub record IsStartOf (es : List Edge) (a k : ℕ) : Type 0 where
   pub within : k ≤ length es
-  pub before : (i : ℕ) (d : Edge) → i < k → IsEdgeBefore a b (slice_index_or es i d)
-  pub after : (i : ℕ) (d : Edge) → k ≤ i → i < length es → ¬ IsEdgeBefore a b (slice_index_or es i d)
+  pub before : (i : ℕ) (d : Edge) → i < k → (slice_index_or es i d).a < a
+  pub after : (i : ℕ) (d : Edge) → k ≤ i → i < length es → a ≤ (slice_index_or es i d).a
+
+-- the edges ascend, and these are the places where those of each lesser end begin
+pub record AreStarts (es : List Edge) (starts : List ℕ) : Type 0 where
+  pub ascending : AllPairs EdgePrecedes es
+  pub each : (a : ℕ) → a < length starts → IsStartOf es a (slice_index starts a)
 
 -- the greater ends of the edges whose lesser end is a, ascending
 pub record IsRow (es : List Edge) (a : ℕ) (row : List ℕ) : Type 0 where
@@ -51,9 +52,24 @@ pub record IsFan (a b : ℕ) (cs : List ℕ) (ts : List Tri) : Type 0 where
   pub count : length ts ≡ length cs
   pub each : (k : ℕ) (d : Tri) → k < length ts → let t = slice_index_or ts k d in (t.a ≡ a) × (t.b ≡ b) × (t.c ≡ slice_index cs k)
 
--- what is asked where the triangles with the first corner a are listed
-pub record IsReady (ps held : List Point) (es : List Edge) (a : ℕ) : Type 0 where
+-- which come after the old ones
+pub record IsFanAdded (a b : ℕ) (cs : List ℕ) (old new : List Tri) : Type 0 where
+  pub fan : List Tri
+  pub is : new ≡ old ++ fan
+  pub each : IsFan a b cs fan
+
+-- The first corners are shared in groups of eight that follow each other: the group of t.
+abbrev pub group_of : Tri → ℕ
+group_of t = t.a / 8
+
+-- t is of the group, and its first corner comes before a
+abbrev pub IsBefore : ℕ → ℕ → Tri → Type 0
+IsBefore group a t = (group_of t ≡ group) × (t.a < a)
+
+-- what is asked where the triangles of a group are listed
+pub record IsReady (ps held : List Point) (es : List Edge) (starts : List ℕ) (group : ℕ) : Type 0 where
   pub grid : held ≡ ps
-  pub ascending : AllPairs EdgePrecedes es
   pub within : All (λ e. e.b < length ps) es
-  pub a_in : a < length ps
+  pub starts_are : AreStarts es starts
+  pub count : length starts ≡ length ps + 1
+  pub group_in : 8 * group < length ps

@@ -1,71 +1,115 @@
 // First corners of triangles.
-ghost use Rattle.std.specs.Prelude.{◌≡◌, ◌≢◌, ◌↔◌, ◌<◌, IsTrue, length, All, AllPairs, IfOk};
-ghost use Rattle.exact_predicates.specs.Candidates.{EdgePrecedes, HasEdge};
-ghost use Rattle.empty_triangles.specs.Enumeration.{IsRow};
+ghost use Rattle.std.specs.Prelude.{◌≡◌, ◌≢◌, ◌↔◌, ◌+◌, ◌<◌, IsTrue, length, All, IfOk};
+ghost use Rattle.exact_predicates.specs.Candidates.{HasEdge};
+ghost use Rattle.empty_triangles.specs.Enumeration.{AreStarts, IsRow};
 ghost use Rattle.empty_triangles.specs.Corners.{IsCorner};
 ghost use Rattle.empty_triangles.specs.Rays.{AreLists};
 
-use crate::edges::{has_edge, has_number, row};
-use crate::rays::first_on_rays;
+use crate::edges::{fill_row, has_edge, has_number};
+use crate::rays::fill_heads;
 use crate::sights::seen_places;
 use crate::window::window_around;
 use exact_predicates::{Edge, Points};
 use mwt_base::NoMemory;
-use point_grid::{Grid, by_direction};
+use point_grid::{Grid, SightList, by_direction};
 use std::alloc::Global;
 
+// Lists of what is seen are made where a row has more edges than this, and hold about so many places for
+// each head at most.
+const LISTED: usize = 32;
+
 /// A first corner: the greater ends of its edges, ascending; the first points on the rays from it, from
-/// left to right, as far as points there can lie in a triangle with two of these ends; and for each of
-/// them the earlier ones that it sees past all between.
+/// left to right, as far as points there can lie in a triangle with two of these ends; and for the first of
+/// these, as many as are worth a list, the earlier ones that each sees past all between.
 #[derive(Drop)]
 pub(crate) struct Corner {
     pub(crate) a: u32,
     pub(crate) row: Vec<u32>,
     pub(crate) heads: Vec<u32>,
     pub(crate) seen: Vec<Vec<usize>>,
+    // What the next corner needs no more, but for its memory.
+    numbers: Vec<u32>,
+    sights: SightList,
 }
 
 impl Corner {
-    /// The corner `a`.
-    pub(crate) fn of(
+    /// No corner yet.
+    pub(crate) fn none(alloc: Global) -> Corner {
+        Corner {
+            a: 0,
+            row: Vec::new(alloc),
+            heads: Vec::new(alloc),
+            seen: Vec::new(alloc),
+            numbers: Vec::new(alloc),
+            sights: SightList::none(alloc),
+        }
+    }
+
+    /// The corner `a`, in the memory of another.
+    pub(crate) fn turned_to(
+        self,
         alloc: Global,
         points: &Points,
         grid: &Grid,
         edges: &[Edge],
+        starts: &[usize],
         a: u32,
     ) -> Result<Corner, NoMemory>
         requires grid { grid.now ≡ points.now.points }
-        requires ascending { AllPairs EdgePrecedes edges.now }
+        requires starts { AreStarts edges.now starts.now }
+        requires count { length starts.now ≡ length points.now.points + 1 }
         requires within { All (λ e. e.b < length points.now.points) edges.now }
         requires a_in { a < length points.now.points }
         ensures a { IfOk result (λ corner. corner.a ≡ a) }
         ensures is { IfOk result (λ corner. IsCorner points.now.points edges.now a corner.row.items corner.heads.items) }
-        ensures lists { IfOk result (λ corner. AreLists points.now.points corner.heads.items (length corner.heads.items) corner.seen.items) }
+        ensures lists { IfOk result (λ corner. AreLists points.now.points corner.heads.items (length corner.seen.items) corner.seen.items) }
     {
         // The proof takes from `len` that these are the points of a problem.
         prove!(a < points.len());
-        let row = row(alloc, edges, a)?;
+        let Corner {
+            a: _,
+            mut row,
+            mut heads,
+            seen: _,
+            mut numbers,
+            mut sights,
+        } = self;
+        fill_row(edges, starts, a, &mut row)?;
         let window = window_around(points, a, &row);
-        let numbers = grid.in_window(alloc, points, window)?;
-        let order = by_direction(alloc, points, a, &numbers)?;
-        let heads = first_on_rays(alloc, points, a, &order)?;
-        let seen = seen_places(alloc, points, a, &heads)?;
+        grid.in_window(points, window, &mut numbers)?;
+        let order = by_direction(alloc, points, a, &numbers, &mut sights)?;
+        fill_heads(points, a, &order, &mut heads)?;
+        let most = most_listed(row.len(), heads.len());
+        let seen = seen_places(alloc, points, a, &heads, most)?;
         Ok(Corner {
             a,
             row,
             heads,
             seen,
+            numbers,
+            sights,
         })
     }
 
     /// Whether the sides to `c` from the corner and from `b` are edges.
-    pub(crate) fn joins(&self, edges: &[Edge], b: u32, c: u32) -> bool
-        requires ascending { AllPairs EdgePrecedes edges.now }
+    pub(crate) fn joins(&self, edges: &[Edge], starts: &[usize], b: u32, c: u32) -> bool
+        requires starts { AreStarts edges.now starts.now }
         requires row { IsRow edges.now self.now.a self.now.row.items }
+        requires b_in { b + 1 < length starts.now }
         requires later { self.now.a < c }
         requires apart { b ≢ c }
         ensures { IsTrue result ↔ (HasEdge edges.now self.now.a c × HasEdge edges.now b c) }
     {
-        has_number(&self.row, c) && has_edge(edges, b, c)
+        has_number(&self.row, c) && has_edge(edges, starts, b, c)
+    }
+}
+
+// How many places lists of what is seen may hold. A list is found by those before it, so that all of them
+// are made; a pass for each edge takes less where there are few edges.
+fn most_listed(edges: usize, heads: usize) -> usize {
+    if edges <= LISTED {
+        0
+    } else {
+        heads.saturating_mul(LISTED)
     }
 }

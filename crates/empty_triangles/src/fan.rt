@@ -1,43 +1,49 @@
 // The empty triangles with two given corners.
-ghost use Rattle.std.specs.Prelude.{◌≡◌, ◌≢◌, ◌<◌, AllPairs, Contains, MatchOption, length, slice_index, IfOk};
-ghost use Rattle.exact_predicates.specs.Candidates.{EdgePrecedes};
-ghost use Rattle.empty_triangles.specs.Enumeration.{AreThirds};
+ghost use Rattle.std.specs.Prelude.{◌≡◌, ◌≢◌, ◌+◌, ◌<◌, AllPairs, Contains, MatchOption, length, slice_index, OnOk};
+ghost use Rattle.exact_predicates.specs.PointSet.{IsPointSet};
+ghost use Rattle.empty_triangles.specs.Enumeration.{AreStarts, AreThirds};
 ghost use Rattle.empty_triangles.specs.Corners.{IsCorner};
-ghost use Rattle.empty_triangles.specs.Rays.{AreTurning, AreLists};
+ghost use Rattle.empty_triangles.specs.Rays.{AreTurning, AreSeen, AreLists};
 
 use crate::corner::Corner;
+use crate::sights::fill_seen;
 use exact_predicates::{Edge, Points};
 use mwt_base::NoMemory;
 use point_grid::is_left;
-use std::alloc::Global;
 
-/// The third corners of the empty triangles over the edges whose first two corners are a given one and
-/// its neighbour `b`, in this turn, ascending.
-pub(crate) fn thirds(
-    alloc: Global,
+/// Puts the third corners of the empty triangles over the edges whose first two corners are a given one and
+/// its neighbour `b`, in this turn, ascending, in place of what was there.
+pub(crate) fn fill_thirds(
     points: &Points,
     edges: &[Edge],
+    starts: &[usize],
     corner: &Corner,
     b: u32,
-) -> Result<Vec<u32>, NoMemory>
-    requires ascending { AllPairs EdgePrecedes edges.now }
+    places: &mut Vec<usize>,
+    thirds: &mut Vec<u32>,
+) -> Result<(), NoMemory>
+    requires starts { AreStarts edges.now starts.now }
+    requires count { length starts.now ≡ length points.now.points + 1 }
     requires a_in { corner.now.a < length points.now.points }
     requires corner { IsCorner points.now.points edges.now corner.now.a corner.now.row.items corner.now.heads.items }
-    requires lists { AreLists points.now.points corner.now.heads.items (length corner.now.heads.items) corner.now.seen.items }
+    requires lists { AreLists points.now.points corner.now.heads.items (length corner.now.seen.items) corner.now.seen.items }
     requires neighbor { Contains corner.now.row.items b }
     requires b_in { b < length points.now.points }
-    ensures are { IfOk result (λ cs. AreThirds points.now.points edges.now corner.now.a b cs.items) }
-    ensures ascending { IfOk result (λ cs. AllPairs ◌<◌ cs.items) }
+    ensures are { OnOk result (AreThirds points.now.points edges.now corner.now.a b thirds.new.items) }
+    ensures ascending { OnOk result (AllPairs ◌<◌ thirds.new.items) }
 {
     // The proof takes from `len` that these are the points of a problem.
     prove!(corner.a < points.len());
     match place_in(points, corner.a, &corner.heads, b) {
         Some(j) => {
-            let mut thirds = thirds_at(alloc, points, edges, corner, j)?;
+            thirds_at(points, edges, starts, corner, j, places, thirds)?;
             thirds.sort_unstable();
-            Ok(thirds)
+            Ok(())
         }
-        None => Ok(Vec::new(alloc)),
+        None => {
+            thirds.clear();
+            Ok(())
+        }
     }
 }
 
@@ -76,33 +82,63 @@ fn first_not_left(points: &Points, a: u32, heads: &[u32], b: u32) -> usize
     from
 }
 
-// The same for the second corner at the place `j` of the heads, as it sees them.
+// The same for the second corner at the place `j` of the heads, in any order: as it sees them, which a list
+// tells or a pass finds.
 fn thirds_at(
-    alloc: Global,
     points: &Points,
     edges: &[Edge],
+    starts: &[usize],
     corner: &Corner,
     j: usize,
-) -> Result<Vec<u32>, NoMemory>
-    requires ascending { AllPairs EdgePrecedes edges.now }
+    places: &mut Vec<usize>,
+    thirds: &mut Vec<u32>,
+) -> Result<(), NoMemory>
+    requires points { IsPointSet points.now.points }
+    requires starts { AreStarts edges.now starts.now }
+    requires count { length starts.now ≡ length points.now.points + 1 }
     requires a_in { corner.now.a < length points.now.points }
     requires corner { IsCorner points.now.points edges.now corner.now.a corner.now.row.items corner.now.heads.items }
-    requires lists { AreLists points.now.points corner.now.heads.items (length corner.now.heads.items) corner.now.seen.items }
+    requires lists { AreLists points.now.points corner.now.heads.items (length corner.now.seen.items) corner.now.seen.items }
     requires j_in { j < length corner.now.heads.items }
     requires neighbor { Contains corner.now.row.items (slice_index corner.now.heads.items j) }
-    ensures are { IfOk result (λ cs. AreThirds points.now.points edges.now corner.now.a (slice_index corner.now.heads.items j) cs.items) }
-    ensures distinct { IfOk result (λ cs. AllPairs (λ c d. c ≢ d) cs.items) }
+    ensures are { OnOk result (AreThirds points.now.points edges.now corner.now.a (slice_index corner.now.heads.items j) thirds.new.items) }
+    ensures distinct { OnOk result (AllPairs (λ c d. c ≢ d) thirds.new.items) }
 {
-    // The proof takes from `len` that these are the points of a problem.
-    prove!(corner.a < points.len());
+    if j < corner.seen.len() {
+        return thirds_among(points, edges, starts, corner, j, &corner.seen[j], thirds);
+    }
+    fill_seen(points, corner.a, &corner.heads, j, places)?;
+    thirds_among(points, edges, starts, corner, j, places, thirds)
+}
+
+// The same, of the places that it sees.
+fn thirds_among(
+    points: &Points,
+    edges: &[Edge],
+    starts: &[usize],
+    corner: &Corner,
+    j: usize,
+    places: &[usize],
+    thirds: &mut Vec<u32>,
+) -> Result<(), NoMemory>
+    requires points { IsPointSet points.now.points }
+    requires starts { AreStarts edges.now starts.now }
+    requires count { length starts.now ≡ length points.now.points + 1 }
+    requires a_in { corner.now.a < length points.now.points }
+    requires corner { IsCorner points.now.points edges.now corner.now.a corner.now.row.items corner.now.heads.items }
+    requires j_in { j < length corner.now.heads.items }
+    requires neighbor { Contains corner.now.row.items (slice_index corner.now.heads.items j) }
+    requires seen { AreSeen points.now.points corner.now.heads.items j places.now }
+    ensures are { OnOk result (AreThirds points.now.points edges.now corner.now.a (slice_index corner.now.heads.items j) thirds.new.items) }
+    ensures distinct { OnOk result (AllPairs (λ c d. c ≢ d) thirds.new.items) }
+{
+    thirds.clear();
     let b = corner.heads[j];
-    let places: &[usize] = &corner.seen[j];
-    let mut thirds = Vec::new(alloc);
     for t in 0..places.len() {
         let c = corner.heads[places[t]];
-        if corner.joins(edges, b, c) {
+        if corner.joins(edges, starts, b, c) {
             thirds.push(c)?;
         }
     }
-    Ok(thirds)
+    Ok(())
 }

@@ -1,5 +1,5 @@
 // The first point on each ray.
-ghost use Rattle.std.specs.Prelude.{◌-◌, ◌<◌, ◌↔◌, pos, ◌<ℤ◌, IsTrue, length, slice_index, IfOk};
+ghost use Rattle.std.specs.Prelude.{◌-◌, ◌<◌, ◌↔◌, pos, ◌<ℤ◌, IsTrue, length, slice_index, OnOk};
 ghost use Rattle.exact_predicates.specs.Plane.{orient};
 ghost use Rattle.exact_predicates.specs.PointSet.{IsPointSet, point_at};
 ghost use Rattle.point_grid.specs.Directions.{AreByDirection};
@@ -8,28 +8,28 @@ ghost use Rattle.empty_triangles.specs.Rays.{AreHeads};
 use exact_predicates::Points;
 use mwt_base::NoMemory;
 use point_grid::is_left;
-use std::alloc::Global;
 
-/// The first point on each ray from `a`, of those in an order in which `a` sees them; from left to right.
-pub(crate) fn first_on_rays(
-    alloc: Global,
+/// Puts the first point on each ray from `a`, of those in an order in which `a` sees them, in place of what
+/// the heads were; from left to right.
+pub(crate) fn fill_heads(
     points: &Points,
     a: u32,
     order: &[u32],
-) -> Result<Vec<u32>, NoMemory>
+    heads: &mut Vec<u32>,
+) -> Result<(), NoMemory>
     requires points { IsPointSet points.now.points }
     requires a_in { a < length points.now.points }
     requires order { AreByDirection points.now.points a order.now }
-    ensures { IfOk result (λ heads. AreHeads points.now.points a order.now heads.items) }
+    ensures { OnOk result (AreHeads points.now.points a order.now heads.new.items) }
 {
-    let mut heads = Vec::new(alloc);
+    heads.clear();
     for k in 0..order.len() {
         if begins_ray(points, a, order, k) {
             heads.push(order[k])?;
         }
     }
     heads.reverse();
-    Ok(heads)
+    Ok(())
 }
 
 // Whether the point at the place `k` of the order lies on another ray than the one before.

@@ -3,7 +3,8 @@ ghost use Rattle.std.specs.Prelude.{◌≡◌, ◌<◌, ◌≤◌, ◌++◌, len
 ghost use Rattle.mwt_base.specs.Limits.{most_triangles};
 ghost use Rattle.exact_predicates.specs.Candidates.{EdgePrecedes, IsEmptyOver, AreTrianglesOver, AreMoreThan};
 
-use crate::blocks::{MOST_TRIANGLES, block_end, rows_between};
+use crate::blocks::{MOST_TRIANGLES, block_end, groups_of, rows_between};
+use crate::edges::starts;
 use crate::stop::TriStop;
 use exact_predicates::{Edges, Points, Tri, Tris};
 use point_grid::Grid;
@@ -14,8 +15,8 @@ use std::thread::Threads;
 /// there are more than 4,000,000; those beyond are not enumerated then.
 ///
 /// Threads share the first corners. For each it takes the time of one query, of a sort of the points
-/// round it and its neighbours, and of a bisection for each pair of these points that see one another past
-/// all between.
+/// round it and its neighbours, and, for each of its edges, of a test of each of these points: what one of
+/// its neighbours sees past all between is found by one pass.
 pub fn triangles<R: Threads + Sync>(
     rt: &R,
     alloc: Global,
@@ -31,20 +32,31 @@ pub fn triangles<R: Threads + Sync>(
     ensures dense { IfErr result (λ stop. stop ≡ TriStop.Dense →
         AreMoreThan (IsEmptyOver points.now.points edges.now) most_triangles) }
 {
+    let groups = groups_of(points.len());
+    let starts = starts(alloc, edges.as_slice(), points.len())?;
     let mut tris = Vec::new(alloc);
-    let mut a = 0;
-    while a < points.len() {
-        let to = block_end(points, edges.as_slice(), a);
-        let rows = rows_between(rt, alloc, points, grid, edges.as_slice(), a, to)?;
+    let mut group = 0;
+    while group < groups {
+        let to = block_end(&starts, groups, group);
+        let rows = rows_between(
+            rt,
+            alloc,
+            points,
+            grid,
+            edges.as_slice(),
+            &starts,
+            group,
+            to,
+        )?;
         for i in 0..rows.len() {
             append(&mut tris, &rows[i])?;
         }
-        a = to;
+        group = to;
     }
     Ok(Tris::of(tris))
 }
 
-// Those of one more first corner, if there is room.
+// Those of one more group, if there is room.
 fn append(tris: &mut Vec<Tri>, row: &[Tri]) -> Result<(), TriStop>
     requires few { vec_len tris.old ≤ most_triangles }
     ensures appended { OnOk result (tris.new.items ≡ tris.old.items ++ row.now) }

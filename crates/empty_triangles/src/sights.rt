@@ -1,5 +1,5 @@
 // Which of the first points on rays see each other past those between.
-ghost use Rattle.std.specs.Prelude.{◌≡◌, ◌<◌, ◌≤◌, ℕ, All, length, slice_index, IfOk};
+ghost use Rattle.std.specs.Prelude.{◌≡◌, ◌≢◌, ◌↔◌, ◌<◌, ◌≤◌, ℕ, IsTrue, All, length, slice_index, IfOk, OnOk};
 ghost use Rattle.exact_predicates.specs.PointSet.{IsPointSet};
 ghost use Rattle.empty_triangles.specs.Rays.{AreTurning, IsAhead, IsSeen, AreSeen, AreLists, IsNext};
 
@@ -8,22 +8,29 @@ use mwt_base::NoMemory;
 use point_grid::is_left;
 use std::alloc::Global;
 
-/// For each place of `heads`, which go round `a` to the right, the earlier places that it sees past all
-/// between, falling. The time is that of a bisection for each of them.
+/// For each of the first places of `heads`, which go round `a` to the right, the earlier places that it
+/// sees past all between, falling. There are lists for all places, or for so many that these hold `most`
+/// places. The time is that of a bisection for each of them.
 pub(crate) fn seen_places(
     alloc: Global,
     points: &Points,
     a: u32,
     heads: &[u32],
+    most: usize,
 ) -> Result<Vec<Vec<usize>>, NoMemory>
     requires points { IsPointSet points.now.points }
     requires a_in { a < length points.now.points }
     requires heads { AreTurning points.now.points a heads.now }
-    ensures { IfOk result (λ seen. AreLists points.now.points heads.now (length heads.now) seen.items) }
+    ensures { IfOk result (λ seen. AreLists points.now.points heads.now (length seen.items) seen.items) }
 {
     let mut seen = Vec::new(alloc);
+    let mut room = most;
     for j in 0..heads.len() {
+        if room == 0 {
+            return Ok(seen);
+        }
         let places = seen_from(alloc, points, a, heads, &seen, j)?;
+        room = room.saturating_sub(places.len());
         seen.push(places)?;
     }
     Ok(seen)
@@ -59,7 +66,7 @@ fn seen_from(
     }
 }
 
-// The greatest place before `k` that `j` sees, which sees `k`, by those that `k` sees.
+// The greatest place before `k` that `j` sees, where `j` sees `k`: one of those that `k` sees.
 fn next_seen(
     points: &Points,
     a: u32,
@@ -107,4 +114,41 @@ fn first_ahead(points: &Points, heads: &[u32], places: &[usize], j: usize, k: us
         }
     }
     from
+}
+
+/// Puts the places that the place `j` sees past all between, falling, in place of what was there, by one
+/// pass over those before it.
+pub(crate) fn fill_seen(
+    points: &Points,
+    a: u32,
+    heads: &[u32],
+    j: usize,
+    places: &mut Vec<usize>,
+) -> Result<(), NoMemory>
+    requires points { IsPointSet points.now.points }
+    requires a_in { a < length points.now.points }
+    requires heads { AreTurning points.now.points a heads.now }
+    requires j_in { j < length heads.now }
+    ensures { OnOk result (AreSeen points.now.points heads.now j places.new.items) }
+{
+    places.clear();
+    let mut last = j;
+    for i in (0..j).rev() {
+        if is_seen_after(points, heads, j, last, i) {
+            places.push(i)?;
+            last = i;
+        }
+    }
+    Ok(())
+}
+
+// Whether the place `i` is ahead of the last one that `j` sees, or there is none yet, where `last` is `j`.
+fn is_seen_after(points: &Points, heads: &[u32], j: usize, last: usize, i: usize) -> bool
+    requires heads_in { All (λ b. b < length points.now.points) heads.now }
+    requires j_in { j < length heads.now }
+    requires last_in { last < length heads.now }
+    requires i_in { i < length heads.now }
+    ensures { IsTrue result ↔ (last ≢ j → IsAhead points.now.points heads.now j last i) }
+{
+    last == j || is_left(points, heads[j], heads[last], heads[i])
 }

@@ -9,7 +9,7 @@ use std::alloc::{AllocError, AllocFailed};
 pub enum TriStop {
     /// There are more than 4,000,000.
     Dense,
-    /// Want of memory.
+    /// Out of memory.
     NoMemory,
 }
 

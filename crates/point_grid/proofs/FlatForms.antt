@@ -1,4 +1,4 @@
--- Linear forms behind the conditions of a flat vector.
+-- Linear forms that decide the conditions of a flat vector.
 use Rattle.std.proofs.Common.{◌≡◌, ℤ, pos, ◌+ℤ◌, ◌-ℤ◌, ◌*ℤ◌, ◌≤ℤ◌, ◌<ℤ◌, arith, [], ◌∷◌, refl}
 use Rattle.std.proofs.lemmas.Int.{ints}
 use Rattle.exact_predicates.specs.declared.point.Point.{Point}

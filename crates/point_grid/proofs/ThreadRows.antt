@@ -27,7 +27,7 @@ module _ (X : Type 0) (Before : X → X → Type 0) (K : X → Type 0) (first : 
       let count = made.0 in
       rw is (record { count = omega arith; each = made.1 })
 
-  -- the row at a place comes behind all before
+  -- the row at a place comes after all before
   pub row_appended : (a n : ℕ) (rows : List (Vec X Global)) (i : ℕ) (row : Vec X Global) (xs ys : List X) → ((x y : X) → first x < first y → Before x y) → AreRows Before K first a n rows → i < length rows → row ≡ get_or rows i row → ys ≡ row.items
       → IsListing Before K (λ x. first x < a + i) xs → IsListing Before K (λ x. first x < a + (i + 1)) (xs ++ ys)
   row_appended a n rows i row xs ys last r i_in at is h =

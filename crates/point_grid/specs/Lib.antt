@@ -4,6 +4,7 @@ pub mod Directions
 pub mod First
 pub mod Flat
 pub mod Frames
+pub mod Gathered
 pub mod Listing
 pub mod Numbered
 pub mod Regions

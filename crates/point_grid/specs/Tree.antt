@@ -1,4 +1,4 @@
--- Trees of frames over points, as lists of entries: each fork stands behind its parts.
+-- Trees of frames over points, as lists of entries: each fork comes after its parts.
 use Rattle.std.specs.Prelude.{◌≡◌, ◌⊎◌, ℕ, ◌≤◌, ◌<◌, List, length, slice_index_or, Contains}
 use Rattle.exact_predicates.specs.declared.point.Point.{Point}
 use Rattle.exact_predicates.specs.PointSet.{point_at}
@@ -16,7 +16,7 @@ HasLeaf es k s = (k < length es) × (slice_index_or es k (Leaf s) ≡ Leaf s)
 abbrev pub HasFork : List Entry → ℕ → Frame → ℕ → Type 0
 HasFork es k f start = (k < length es) × (slice_index_or es k (Fork f start) ≡ Fork f start)
 
--- each frame stands behind its start, and has the spots between
+-- each frame comes after its start, and has the spots between
 pub record AreFramed (es : List Entry) : Type 0 where
   pub starts : (k : ℕ) (f : Frame) (start : ℕ) → HasFork es k f start → start ≤ k
   pub framed : (k : ℕ) (f : Frame) (start i : ℕ) (s : Spot) → HasFork es k f start → start ≤ i → i < k → HasLeaf es i s → IsInFrame f s.point
@@ -26,7 +26,7 @@ pub record AreSpotsOf (ps : List Point) (es : List Entry) : Type 0 where
   pub each : (k : ℕ) (s : Spot) → HasLeaf es k s → (s.number < length ps) × (s.point ≡ point_at ps s.number)
   pub all : (n : ℕ) → n < length ps → (k : ℕ) × (s : Spot) × HasLeaf es k s × (s.number ≡ n)
 
--- new entries behind the old ones, whose spots are those that are P
+-- new entries after the old ones, whose spots are those that are P
 pub record Grows (old new : List Entry) (P : Spot → Type 0) : Type 0 where
   pub longer : length old ≤ length new
   pub kept : (k : ℕ) (e : Entry) → k < length old → slice_index_or new k e ≡ slice_index_or old k e

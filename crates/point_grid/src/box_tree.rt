@@ -14,7 +14,7 @@ use std::marker::Model;
 // Fewer spots than these are not parted.
 const FEW: usize = 8;
 
-/// Points in a tree of frames, in the order of places near one another. Each frame stands behind
+/// Points in a tree of frames, in the order of places near one another. Each frame comes after
 /// the entries that it has.
 #[derive(Drop)]
 pub struct BoxTree {

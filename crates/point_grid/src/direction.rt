@@ -1,5 +1,5 @@
 // Points after a given one, in the order in which they are seen from it.
-ghost use Rattle.std.specs.Prelude.{◌≡◌, ◌≢◌, ◌↔◌, ◌<◌, pos, ◌<ℤ◌, IsTrue, length, slice_index, All, AllPairs, IfOk, IsPermutation};
+ghost use Rattle.std.specs.Prelude.{◌≡◌, ◌≢◌, ◌↔◌, ◌<◌, pos, ◌<ℤ◌, IsTrue, length, slice_index, All, AllPairs, IfOk, OnOk, IsPermutation};
 ghost use Rattle.exact_predicates.specs.Plane.{orient};
 ghost use Rattle.exact_predicates.specs.PointSet.{IsPointSet, point_at};
 ghost use Rattle.point_grid.specs.Directions.{SeesPast, AreByDirection, AreSights, sight_cmp};
@@ -10,13 +10,30 @@ use mwt_base::NoMemory;
 use std::alloc::Global;
 use std::cmp::Ordering;
 
+/// Later points as they are seen from a given one, in memory that serves one sort after the other.
+#[derive(Drop)]
+pub struct SightList {
+    list: Vec<Sight>,
+}
+
+impl SightList {
+    /// No sights yet.
+    pub fn none(alloc: Global) -> SightList {
+        SightList {
+            list: Vec::new(alloc),
+        }
+    }
+}
+
 /// These numbers of points after the point `a`, in the order in which `a` sees them: from right to
-/// left, and on one ray the nearer first. They all lie in one half-plane, so that this is an order.
+/// left, and on one ray the nearer first. They all lie in one half-plane, so that this is an order. What the
+/// sights were is lost.
 pub fn by_direction(
     alloc: Global,
     points: &Points,
     a: u32,
     numbers: &[u32],
+    sights: &mut SightList,
 ) -> Result<Vec<u32>, NoMemory>
     requires a_in { a < length points.now.points }
     requires later { All (λ b. (a < b) × (b < length points.now.points)) numbers.now }
@@ -24,9 +41,10 @@ pub fn by_direction(
     ensures same { IfOk result (λ order. IsPermutation numbers.now order.items) }
     ensures ordered { IfOk result (λ order. AreByDirection points.now.points a order.items) }
 {
-    let mut sights = sights_from(alloc, points, a, numbers)?;
-    sights.sort_unstable_by(compare);
-    Ok(sights.iter().map(|s| s.number).collect(alloc)?)
+    let list = &mut sights.list;
+    fill_sights(points, a, numbers, list)?;
+    list.sort_unstable_by(compare);
+    Ok(list.iter().map(|s| s.number).collect(alloc)?)
 }
 
 /// Whether none of the points of an order, in which `a` sees them, is between `a` and that at the
@@ -54,26 +72,27 @@ pub fn is_left(points: &Points, a: u32, b: u32, c: u32) -> bool
     orient(points.at(a), points.at(b), points.at(c)) > 0
 }
 
-// These points after `a` as they are seen from it, in the order of the list.
-fn sights_from(
-    alloc: Global,
+// Puts these points after `a`, as they are seen from it, in place of what was there, in the order of the
+// numbers.
+fn fill_sights(
     points: &Points,
     a: u32,
     numbers: &[u32],
-) -> Result<Vec<Sight>, NoMemory>
+    sights: &mut Vec<Sight>,
+) -> Result<(), NoMemory>
     requires a_in { a < length points.now.points }
     requires later { All (λ b. (a < b) × (b < length points.now.points)) numbers.now }
-    ensures { IfOk result (λ sights. AreSights points.now.points a numbers.now sights.items) }
+    ensures { OnOk result (AreSights points.now.points a numbers.now sights.new.items) }
 {
     // The proof takes from `len` that these are the points of a problem.
     prove!(a < points.len());
     let from = points.at(a);
-    let mut sights = Vec::new(alloc);
+    sights.clear();
     for i in 0..numbers.len() {
         let b = numbers[i];
         sights.push(Sight::of(from, points.at(b), b))?;
     }
-    Ok(sights)
+    Ok(())
 }
 
 // How two sights compare: by direction, from right to left, and then by number.

@@ -1,5 +1,5 @@
 // The points of a problem, ready for queries.
-ghost use Rattle.std.specs.Prelude.{◌≡◌, ◌≢◌, ◌<◌, ◌≤◌, ◌<ℤ◌, pos, length, IfOk};
+ghost use Rattle.std.specs.Prelude.{◌≡◌, ◌≢◌, ◌<◌, ◌≤◌, ◌<ℤ◌, pos, length, IfOk, OnOk};
 ghost use Rattle.exact_predicates.specs.Plane.{orient, IsBetween, IsInClosedTriangle, IsInLeftDiamond};
 ghost use Rattle.exact_predicates.specs.PointSet.{point_at};
 ghost use Rattle.exact_predicates.specs.Root.{IsRootUp};
@@ -11,6 +11,7 @@ ghost use Rattle.point_grid.specs.Windows.{AreAllIn};
 
 use crate::box_tree::BoxTree;
 use crate::cells::Cells;
+use crate::gathering::Reach;
 use crate::region::Region;
 use crate::search::first_in;
 use crate::window::Window;
@@ -121,23 +122,30 @@ impl Grid {
         first_in(&self.points, &self.cells, &region)
     }
 
-    /// The numbers of the points in a window, each once, in any order.
+    /// Puts the numbers of the points in a window in place of what was there, each once. Parts of the tree
+    /// that do not meet the window are passed over.
     pub fn in_window(
         &self,
-        alloc: Global,
         points: &Points,
         window: Window,
-    ) -> Result<Vec<u32>, NoMemory>
+        numbers: &mut Vec<u32>,
+    ) -> Result<(), NoMemory>
         requires made { self.now ≡ points.now.points }
         requires window_in { window.to ≤ length points.now.points }
-        ensures { IfOk result (λ numbers. AreAllIn points.now.points window numbers.items) }
+        ensures { OnOk result (AreAllIn points.now.points window numbers.new.items) }
     {
-        let mut numbers = Vec::new(alloc);
-        for r in window.from..window.to {
-            if window.reaches(&self.points[r as usize]) {
-                numbers.push(r)?;
-            }
+        if window.to <= window.from {
+            numbers.clear();
+            return Ok(());
         }
-        Ok(numbers)
+        let reach = Reach {
+            window,
+            left: points.at(window.from).x,
+            right: points.at(window.to - 1).x,
+        };
+        self.tree.gather(&reach, numbers)?;
+        numbers.sort_unstable();
+        numbers.dedup();
+        Ok(())
     }
 }

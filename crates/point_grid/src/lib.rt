@@ -15,6 +15,7 @@ mod flat;
 mod forms;
 mod frame;
 mod framing;
+mod gathering;
 mod grid;
 mod region;
 mod search;
@@ -24,7 +25,7 @@ mod window;
 
 pub use blocking::{blocks_left_of_all, blocks_right_of_all};
 pub use box_tree::BoxTree;
-pub use direction::{by_direction, is_first_on_ray, is_left};
+pub use direction::{SightList, by_direction, is_first_on_ray, is_left};
 pub use frame::Frame;
 pub use grid::Grid;
 pub use spot::{Entry, Spot};

@@ -5,7 +5,7 @@ use Rattle.point_grid.proofs.Growing.{AreSpotsOf-grown}
 use Rattle.point_grid.proofs.Parting.{Grows-first}
 use Rattle.point_grid.proofs.box_tree.BoxTree.new.Goals as goal
 
--- what is left behind the first
+-- what is left after the first
 rest_is : (spots : List Spot) → take (length spots - 1) (drop 1 spots) ≡ drop 1 spots
 rest_is spots = subst (λ (n : ℕ). take n (drop 1 spots) ≡ drop 1 spots) (length-drop 1 spots) (take-length (drop 1 spots))
 
