@@ -70,7 +70,7 @@ hit-up x y s t l =
     ap (λ a. hit x y (a, max s t)) low ∙ (ap (λ b. hit x y (t, b)) high ∙ omega (arith, hit_turned x y t s)))
     (cases_lt s t)
 
-count_up : (es : List (ℕ × ℕ)) (x y : ℕ) → x < y → count (map up es) x y ≡ count es x y + count es y x
+pub count_up : (es : List (ℕ × ℕ)) (x y : ℕ) → x < y → count (map up es) x y ≡ count es x y + count es y x
 count_up [] x y l = refl
 count_up (s ∷ es) x y l =
     omega (

@@ -66,6 +66,7 @@ network_of n diamond points_are hull_is candidates triangles few_edges few_tris 
       hull_is = hull_is;
       ascending = candidates.ascending;
       ends_in = λ k d k_in. (candidates.each k d k_in).b_in;
+      clear = λ k d k_in. (candidates.each k d k_in).clear;
       hull_edges = λ e h. candidates.all e (hull_candidate n.points n.hull diamond e hull_is h);
       tris_are = triangles;
       few_edges = few_edges;

@@ -63,7 +63,7 @@ module _ {X : Type 0} where
         int_sum_by-not_negative f xs (λ y m. h y (Contains-later x y xs m)),
       )
 
-  -- what stands before and behind a member
+  -- what stands before and after a member
   pub around : (xs : List X) (x : X) → Contains xs x → (front : List X) × (back : List X) × (xs ≡ front ++ x ∷ back)
   around [] x h = absurd (Contains-nil x h)
   around (y ∷ ys) x h =

@@ -4,10 +4,12 @@ pub mod BoundLaws
 pub mod Builds
 pub mod CandidateEdges
 pub mod CountedSums
+pub mod Derivations
 pub mod Descent
 pub mod Due
 pub mod EdgeLists
 pub mod EdgeStarts
+pub mod EndNumbers
 pub mod Entries
 pub mod Facing
 pub mod Fans
@@ -37,4 +39,3 @@ pub mod Starts
 pub mod Tallies
 pub mod TriangleSides
 pub mod Uniqueness
-pub mod Weights

@@ -1,4 +1,5 @@
 pub mod Bounds
+pub mod Derivation
 pub mod Due
 pub mod Edges
 pub mod Flags

@@ -1,5 +1,6 @@
 // The laws of the crate, as contracts of functions that do nothing.
 ghost use Rattle.lmt_network.specs.Bounds.{BoundIsBelow, BoundHolds, BoundHoldsOff, ExclusionOff, ExclusionWhereSame};
+ghost use Rattle.lmt_network.specs.Derivation.{RankedIsDead, RankedIsInNone};
 ghost use Rattle.lmt_network.specs.FlipMinimal.{FlipMinimalIsClosed, FlipMinimalIsLive, EdgesAreCandidates};
 ghost use Rattle.lmt_network.specs.LiveSuffices.{ShortestOverLiveIsMinimum, BoundOverLiveIsBound};
 ghost use Rattle.lmt_network.specs.Minimum.{MinimumIsFlipMinimal, MinimumIsLive, MinimumHasSkeleton, MinimumExists};
@@ -24,6 +25,13 @@ pub fn number_laws()
     ensures dead { DeadIsInNone }
     ensures one { LiveNumbersAreOne }
     ensures live { LiveNumbersAreLive }
+{}
+
+/// The laws on ranks that are a derivation. An edge with a rank above 0 is dead, so no closed list holds
+/// it.
+pub fn derivation_laws()
+    ensures dead { RankedIsDead }
+    ensures none { RankedIsInNone }
 {}
 
 /// The laws on the edges of a flip-minimal triangulation. Where all of them are candidates they are a

@@ -11,10 +11,9 @@ ghost use Rattle.lmt_network.specs.Network.{NetworkParts, IsNetwork, edge_at, tr
 ghost use Rattle.lmt_network.specs.Numbers.{IsHullNumber, IsOnLeft, IsOnRight, IsMinimalPair, IsNumberOf, IsSideOf, HasSide};
 ghost use Rattle.exact_predicates.specs.Triangulation.{HasCorners};
 
-use crate::tables::{
-    edge_starts, find_edge, hull_flags, row, row_starts, rows, side_keys, weights,
-};
+use crate::tables::{edge_starts, find_edge, hull_flags, row, row_starts, rows, side_keys};
 use exact_predicates::{Edge, Edges, Hull, Point, Points, Tri, Tris, d2, strictly_convex};
+use length_enclosure::weight;
 use mwt_base::NoMemory;
 use std::alloc::Global;
 use std::marker::Model;
@@ -31,8 +30,6 @@ pub struct Network {
     edge_starts: Vec<u32>,
     // Of each edge, whether it is a hull edge.
     on_hull: Vec<bool>,
-    // Of each edge, its length in millionths of the unit, rounded down.
-    weights: Vec<u64>,
     // Of each triangle, the keys of its three sides: the row of the triangles that have this side.
     keys: Vec<u32>,
     // Where each row begins in `rows`, and where the last one ends.
@@ -53,7 +50,7 @@ impl Model for Network {
 }
 
 impl Network {
-    /// The network of the candidate edges and of all empty triangles over these. Each side of a
+    /// The network of the candidate edges and of all empty triangles over these. One side of each
     /// triangle is looked up among the edges that have its lesser end; all else takes linear time.
     pub fn build(
         alloc: Global,
@@ -77,7 +74,6 @@ impl Network {
         let rows = rows(alloc, &keys, 2 * edges.len(), &starts)?;
         let points = Vec::from_slice(alloc, points.as_slice())?;
         let hull = Vec::from_slice(alloc, hull.as_slice())?;
-        let weights = weights(alloc, &points, edges.as_slice())?;
         Ok(Network {
             points,
             hull,
@@ -85,7 +81,6 @@ impl Network {
             tris,
             edge_starts,
             on_hull,
-            weights,
             keys,
             starts,
             rows,
@@ -142,13 +137,14 @@ impl Network {
         ]
     }
 
-    /// The edge's length in millionths of the unit, rounded down.
+    /// The edge's length in millionths of the unit, rounded down. Each call takes the root anew.
     pub fn weight(&self, e: u32) -> u64
         requires { e < length self.now.edges }
         ensures value { result ≡ weight self.now.points ((edge_at self.now e).a, (edge_at self.now e).b) }
         ensures bound { result < 3 * 10 ^ 15 }
     {
-        self.weights[e as usize]
+        let edge = self.edge(e);
+        weight(d2(self.point(edge.a), self.point(edge.b)))
     }
 
     /// The number of the edge with the ends `u` and `v`, in either order; None exactly where there is

@@ -46,11 +46,6 @@ rows-requires-clause-in_range c =
     let keys : AreSideKeys c.args.edges c.args.tris c.in_ok-keys.keys.items = rw (c.as_slice-4.ensures.is, c.as_slice-5.ensures.is) at c.in_ok-keys.ensures in
     rw (c.deref-4.ensures.value, c.len-3.ensures) (keys_below n c.in_ok-keys.keys.items keys)
 
-pub weights-requires-clause-ends_in : goal.weights-requires-clause-ends_in
-weights-requires-clause-ends_in c =
-    rw (c.as_slice-8.ensures.is, c.deref-6.ensures.value, c.in_ok-points.ensures.items, c.as_slice-6.ensures.is)
-    (λ k d k_in. (c.requires.candidates.1.each k d k_in).b_in)
-
 pub invariant_of-result : goal.invariant_of-result
 invariant_of-result c =
     let points : c.in_ok-points.points.items ≡ c.args.points.now.points = c.in_ok-points.ensures.items ∙ c.as_slice-6.ensures.is in
@@ -60,7 +55,6 @@ invariant_of-result c =
       network = rw (points, hull) (network_of n c.requires.candidates.0 c.as_slice-6.ensures.valid c.requires.hull_is c.requires.candidates.1 c.requires.triangles c.requires.few_edges c.requires.few_tris);
       edge_starts = rw c.as_slice.ensures.is at c.in_ok-edge_starts.ensures;
       flags = rw hull (rw (c.as_slice-3.ensures.is, c.as_slice-2.ensures.is) at c.in_ok-on_hull.ensures);
-      weights = rw (c.deref-6.ensures.value, c.as_slice-8.ensures.is) at c.in_ok-weights.ensures;
       keys = rw (c.as_slice-4.ensures.is, c.as_slice-5.ensures.is) at c.in_ok-keys.ensures;
       starts = rw (c.deref-3.ensures.value, c.len-2.ensures) at c.in_ok-starts.ensures;
       rows = rw (c.deref-4.ensures.value, c.len-3.ensures) at c.in_ok-rows.ensures;

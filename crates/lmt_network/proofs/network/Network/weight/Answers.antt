@@ -1,10 +1,12 @@
-use Rattle.std.proofs.Common.{◌<◌, length, subst, sym}
-use Rattle.lmt_network.specs.Inside.{parts_of}
-use Rattle.lmt_network.specs.Network.{NetworkParts}
-use Rattle.lmt_network.proofs.Weights.{weight_read}
+use Rattle.std.proofs.Common.{◌≡◌, ◌*◌, ◌^◌, ap, refl, ◌∙◌}
+use Rattle.exact_predicates.specs.Length.{edge_d2}
+use Rattle.exact_predicates.specs.Root.{root_down}
+use Rattle.lmt_network.specs.Network.{edge_at}
 use Rattle.lmt_network.proofs.network.Network.weight.Goals as goal
 
-pub returns-clause-bound : goal.returns-clause-bound
-returns-clause-bound c =
-    let e_in = subst (λ (n : NetworkParts). c.args.e < length n.edges) (sym c.self.view_is) c.requires in
-    weight_read (parts_of c.self.inside) c.self.inside.weights.items c.args.e c.index.result.now c.self.invariant.network c.self.invariant.weights e_in c.index.ensures
+pub returns-clause-value : goal.returns-clause-value
+returns-clause-value c =
+    let n = c.args.self.now in
+    let squared : c.d2.result ≡ edge_d2 n.points ((edge_at n c.args.e).a, (edge_at n c.args.e).b) =
+    c.d2.ensures.value ∙ rw (c.point.ensures.value, c.point-2.ensures.value, c.edge-edge.ensures.value) refl in
+    c.weight.ensures.value ∙ ap (λ d. root_down (10 ^ 12 * d)) squared
