@@ -1,10 +1,10 @@
 -- Going round a point: what comes between in the order of sides comes between clockwise.
-use Rattle.std.proofs.Common.{◌≡◌, ◌⊎◌, pos, ◌+ℤ◌, ◌-ℤ◌, ◌<ℤ◌, [], ◌∷◌, inl, inr, ⊎_elim, arith}
+use Rattle.std.proofs.Common.{◌≡◌, ◌⊎◌, pos, ◌+ℤ◌, ◌-ℤ◌, ◌<ℤ◌, [], ◌∷◌, sym, subst, inl, inr, ⊎_elim, arith}
 use Rattle.std.proofs.lemmas.Int.{ints, by_lt_z}
 use Rattle.exact_predicates.specs.declared.point.Point.{Point}
 use Rattle.exact_predicates.specs.Plane.{orient, Precedes}
 use Rattle.exact_predicates.proofs.Ring.{var, num, plus, less, times, ring}
-use Rattle.exact_predicates.proofs.Orientation.{coordinates, orient_term, orient_swapped_last}
+use Rattle.exact_predicates.proofs.Orientation.{coordinates, orient_last_twice, orient_term, orient_swapped_last}
 use Rattle.exact_predicates.proofs.HalfPlane.{cross, cross_swap, cross_strict_last, forward_from, orient_back}
 use Rattle.skeleton_faces.specs.Faces.{AreClockwise}
 
@@ -76,3 +76,34 @@ two_before o p q r op qo ro y =
     (λ l. inl (l, y))
     (λ m. let on = cross_strict_last ax ay ux uy wx wy (forward_from o p op) (forward_from q o qo) (forward_from r o ro) (omega (arith, ints)) (omega (arith, ints)) in
     inr (inl (y, omega (arith, ints))))
+
+-- no point turns to the left to itself
+pub not_itself : (o q r : Point) → q ≡ r → pos 0 <ℤ orient o q r → ⊥
+not_itself o q r e turn =
+    let z = orient_last_twice o q in
+    let l = subst (λ (x : Point). pos 0 <ℤ orient o q x) (sym e) turn in
+    omega (arith, ints)
+
+-- x and q come after o, and r before it: where x turns to the left to r and to q, q turns to the left to r
+pub onto_tail : (o x q r : Point) → Precedes o x → Precedes o q → Precedes r o → pos 0 <ℤ orient o x r → pos 0 <ℤ orient o x q → pos 0 <ℤ orient o q r
+onto_tail o x q r ox oq ro xr xq =
+    ⊎_elim
+    (λ k. k.1)
+    (λ m. ⊎_elim (λ k. k.0) (λ k. let k0 = k.0 in absurd (omega (arith, ints, orient_swapped_last o x r))) m)
+    (two_after o x q r ox oq ro xq)
+
+-- q and z come after o, and r before it: where r turns to the left to z and q to z, r turns to the left to q
+pub onto_head : (o q z r : Point) → Precedes o q → Precedes o z → Precedes r o → pos 0 <ℤ orient o r z → pos 0 <ℤ orient o q z → pos 0 <ℤ orient o r q
+onto_head o q z r oq oz ro rz qz =
+    ⊎_elim
+    (λ k. let k1 = k.1 in absurd (omega (arith, ints, orient_swapped_last o r z)))
+    (λ m. ⊎_elim (λ k. k.1) (λ k. k.0) m)
+    (two_after o q z r oq oz ro qz)
+
+-- of y and z before o no angle to the left of less than half a turn has a point after o
+pub none_ahead : (o q y z : Point) → Precedes o q → Precedes y o → Precedes z o → pos 0 <ℤ orient o y z → pos 0 <ℤ orient o y q → pos 0 <ℤ orient o q z → ⊥
+none_ahead o q y z oq yo zo yz yq qz =
+    ⊎_elim
+    (λ k. let k0 = k.0 in omega (arith, ints, orient_swapped_last o y q))
+    (λ m. ⊎_elim (λ k. let k1 = k.1 in omega (arith, ints, orient_swapped_last o q z)) (λ k. let k0 = k.0 in omega (arith, ints, orient_swapped_last o q z)) m)
+    (two_before o q y z oq yo zo yz)

@@ -1,5 +1,5 @@
 -- Rays and their order.
-use Rattle.std.proofs.Common.{◌≡◌, ◌≢◌, ℕ, ◌+◌, ◌*◌, ◌^◌, ◌<◌, ◌≤◌, Bool, true, false, Ordering, ℤ, pos, ◌+ℤ◌, ◌-ℤ◌, ◌*ℤ◌, ◌<ℤ◌, ◌≤ℤ◌, to_z, of_z, unsigned_abs, List, [], ◌∷◌, ◌++◌, length, get_or, AllPairs, Any, eqb, refl, sym, ap, ◌∙◌, subst, inl, inr, ⊎_elim, arith}
+use Rattle.std.proofs.Common.{◌≡◌, ◌≢◌, ◌⊎◌, ℕ, ◌+◌, ◌*◌, ◌^◌, ◌<◌, ◌≤◌, Bool, true, false, Ordering, ℤ, pos, ◌+ℤ◌, ◌-ℤ◌, ◌*ℤ◌, ◌<ℤ◌, ◌≤ℤ◌, to_z, of_z, unsigned_abs, List, [], ◌∷◌, ◌++◌, length, get_or, AllPairs, eqb, refl, sym, ap, ◌∙◌, subst, inl, inr, ⊎_elim, arith}
 use Rattle.std.specs.declared.cmp.Ordering.TheVariants.{Less, Equal, Greater}
 use Rattle.std.specs.Ordering.{int_cmp, is_lt, ordering_reverse}
 use Rattle.std.specs.Cmp.{IsTotalOrder, IsStrictWeakOrder, bool_cmp_total}
@@ -9,17 +9,20 @@ use Rattle.std.proofs.lemmas.Cmp.{by_ranked, int_ranked, int_cmp_total, nat_cmp_
 use Rattle.std.proofs.Math.IntN.{*ℤ_comm as mulz_comm}
 use Rattle.std.proofs.lemmas.Int.{ints, by_lt_z, unsigned_abs-mul}
 use Rattle.std.proofs.lemmas.List.{get_or_append_left, get_or_push, get_or_default, length-append}
-use Rattle.std.proofs.lemmas.List.Sorted.{All-permutation, Contains-permutation, sorted_far, ranks_by}
+use Rattle.std.proofs.lemmas.List.Elements.{All-push, All-weaker}
+use Rattle.std.proofs.lemmas.List.Quantifiers.{all_pairs_push}
+use Rattle.std.proofs.lemmas.List.Sorted.{All-permutation, sorted_far, ranks_by}
 use Rattle.std.proofs.lemmas.Nat.{mul-le}
 use Rattle.exact_predicates.specs.declared.edge.Edge.{Edge}
 use Rattle.exact_predicates.specs.declared.point.Point.{Point}
+use Rattle.exact_predicates.proofs.Elements.{Any-append_left, Any-append_right, Any-permutation}
 use Rattle.exact_predicates.proofs.HalfPlane.{IsForward, cross, cross_swap, cross_transitive, cross_strict, cross_strict_last}
 use Rattle.exact_predicates.proofs.ListFacts.{AllPairs-IsPermutation}
 use Rattle.exact_predicates.specs.PointSet.{point_at}
 use Rattle.skeleton_faces.specs.Marks.{nth_edge}
 use Rattle.skeleton_faces.proofs.SideNumbers.{forward_is, backward_is, half_forward, half_backward}
 use Rattle.skeleton_faces.specs.declared.ray.Ray.{Ray}
-use Rattle.skeleton_faces.specs.Rays.{AreRays, IsRay, ray_cmp}
+use Rattle.skeleton_faces.specs.Rays.{AreRays, AreShown, IsRay, ray_cmp}
 use mir.Syntax.{w64}
 
 -- a product of two widths or heights is not changed by its way through the bits
@@ -152,14 +155,29 @@ built_more ps es n rays after s t b hs s_is ht t_is is =
         subst At (sym (get_or_push xs r d k e)) (hr, omega arith))
         (cases_lt k (length xs))
 
--- in their order they show every side once
-pub AreRays-sorted : (ps : List Point) (es : List Edge) (old new : List Ray) → AreBuilt ps es (length es) old → IsPermutation old new → length new ≡ length old → IsSortedBy is_before new → AreRays ps es new
-AreRays-sorted ps es old new b moved same sorted =
+-- they show every side once
+pub AreShown-built : (ps : List Point) (es : List Edge) (n : ℕ) (rays : List Ray) → AreBuilt ps es n rays → AreShown ps es (λ s. s < 2 * n) rays
+AreShown-built ps es n rays b =
     record {
-      count = same ∙ b.count;
-      each = All-permutation (IsRay ps es) old new moved (λ k d l. (b.each k d l).0);
-      all = found;
-      distinct = λ i j d l j_in e. differ _ _ (AllPairs-IsPermutation (λ (r t : Ray). eqb r.side t.side) (λ r t. nat_eq_equiv.symm r.side t.side) old new moved apart i j d l j_in) e;
+      each = λ k d l. (b.each k d l).0;
+      only = λ k d l. omega (arith, (b.each k d l).1, b.count);
+      all = λ s s_in.
+          let k_in : s < length rays = omega (arith, b.count) in
+          let r = get_or rays s some_ray in
+          (s, r, k_in, get_or_default rays s r some_ray k_in, (b.each s some_ray k_in).1);
+      distinct = λ i j d l j_in e. omega (arith, (b.each i d (omega arith)).1, (b.each j d j_in).1, e);
+    }
+
+-- and so they do in their order
+pub AreRays-sorted : (ps : List Point) (es : List Edge) (P : ℕ → Type 0) (old new : List Ray) → AreShown ps es P old → IsPermutation old new → IsSortedBy is_before new → AreRays ps es P new
+AreRays-sorted ps es P old new h moved sorted =
+    record {
+      shown = record {
+        each = All-permutation (IsRay ps es) old new moved h.each;
+        only = All-permutation (λ (r : Ray). P r.side) old new moved h.only;
+        all = λ s p. Any-permutation (λ (r : Ray). r.side ≡ s) old new moved (h.all s p);
+        distinct = λ i j d l j_in e. differ _ _ (AllPairs-IsPermutation (λ (r t : Ray). eqb r.side t.side) (λ r t. nat_eq_equiv.symm r.side t.side) old new moved apart i j d l j_in) e;
+      };
       sorted = λ i j d l j_in. sorted_far is_before is_before_order new sorted i j d (omega arith) j_in;
     }
   where
@@ -167,14 +185,34 @@ AreRays-sorted ps es old new b moved same sorted =
     differ m n e f = eqb-false m n e f
 
     apart : AllPairs (λ (r t : Ray). eqb r.side t.side ≡ false) old
-    apart = λ i j d l j_in. let m = (b.each i d (omega arith)).1 in let n = (b.each j d j_in).1 in ne_eqb _ _ (λ e. omega arith)
+    apart = λ i j d l j_in. ne_eqb _ _ (h.distinct i j d l j_in)
 
-    found : (s : ℕ) → s < 2 * length es → Any (λ (r : Ray). r.side ≡ s) new
-    found s s_in =
-        let k_in : s < length old = omega (arith, b.count) in
-        let r = get_or old s some_ray in
-        let (j, j_in, at_j) = Contains-permutation old new r moved (s, k_in, get_or_default old s r some_ray k_in) in
-        (j, r, j_in, at_j, (b.each s some_ray k_in).1)
+-- rays show no side at first
+pub AreShown-none : (ps : List Point) (es : List Edge) (P : ℕ → Type 0) (rays : List Ray) → rays ≡ [] → ((s : ℕ) → ¬ P s) → AreShown ps es P rays
+AreShown-none ps es P rays is none =
+    subst (AreShown ps es P) (sym is)
+    (record {
+      each = λ k d l. absurd (omega arith);
+      only = λ k d l. absurd (omega arith);
+      all = λ s p. absurd (none s p);
+      distinct = λ i j d l j_in. absurd (omega arith);
+    })
+
+-- and with one ray more its side too
+pub AreShown-more : (ps : List Point) (es : List Edge) (P Q : ℕ → Type 0) (rays after : List Ray) (r : Ray) → AreShown ps es P rays → IsRay ps es r → ¬ P r.side
+    → Q r.side → ((s : ℕ) → P s → Q s) → ((s : ℕ) → Q s → P s ⊎ (s ≡ r.side)) → after ≡ rays ++ r ∷ [] → AreShown ps es Q after
+AreShown-more ps es P Q rays after r h is fresh here wider cases after_is =
+    subst (AreShown ps es Q) (sym after_is)
+    (record {
+      each = All-push (IsRay ps es) rays r h.each is;
+      only = All-push (λ (x : Ray). Q x.side) rays r (All-weaker (λ (x : Ray). P x.side) (λ (x : Ray). Q x.side) (λ x p. wider x.side p) rays h.only) here;
+      all = λ s q.
+          ⊎_elim
+          (λ p. Any-append_left (λ (x : Ray). x.side ≡ s) rays (r ∷ []) (h.all s p))
+          (λ e. Any-append_right (λ (x : Ray). x.side ≡ s) rays (r ∷ []) (0, r, omega arith, refl, sym e))
+          (cases s q);
+      distinct = all_pairs_push (λ (x y : Ray). x.side ≢ y.side) rays r h.distinct (λ k d l e. fresh (subst P e (h.only k d l)));
+    })
 
 -- the two rays of an edge
 module _ (ps : List Point) (es : List Edge) (n : ℕ) (e : Edge) (r : Ray) (n_in : n < length es) (is : nth_edge es n ≡ e) where

@@ -1,28 +1,13 @@
 -- Flags that fall, and what flags choose.
-use Rattle.std.proofs.Common.{◌≡◌, ◌⊎◌, ℕ, zero, suc, ◌+◌, ◌<◌, ◌≤◌, Bool, true, false, List, [], ◌∷◌, ◌++◌, length, get_or, set, take, refl, inl, inr, ⊎_elim, ap, sym, add-one, arith}
+use Rattle.std.proofs.Common.{◌≡◌, ℕ, zero, suc, ◌+◌, ◌<◌, ◌≤◌, Bool, true, false, List, [], ◌∷◌, ◌++◌, length, get_or, set, take, refl, ap, sym, add-one, arith}
 use Rattle.std.proofs.lemmas.Bool.{false≢true}
 use Rattle.std.specs.List.{items_where_true}
 
--- a flag stays down
-pub stays_down : (flags : List Bool) (i k : ℕ) → get_or flags k false ≡ false → get_or (set flags i false) k false ≡ false
-stays_down [] i k h = h
-stays_down (b ∷ bs) zero zero h = refl
-stays_down (b ∷ bs) zero (suc k) h = h
-stays_down (b ∷ bs) (suc i) zero h = h
-stays_down (b ∷ bs) (suc i) (suc k) h = stays_down bs i k h
-
+-- a flag that falls is down
 pub is_down : (flags : List Bool) (i : ℕ) → get_or (set flags i false) i false ≡ false
 is_down [] i = refl
 is_down (b ∷ bs) zero = refl
 is_down (b ∷ bs) (suc i) = is_down bs i
-
--- and no other falls
-pub fell : (flags : List Bool) (i k : ℕ) → get_or (set flags i false) k false ≡ false → (k ≡ i) ⊎ (get_or flags k false ≡ false)
-fell [] i k h = inr h
-fell (b ∷ bs) zero zero h = inl refl
-fell (b ∷ bs) zero (suc k) h = inr h
-fell (b ∷ bs) (suc i) zero h = inr h
-fell (b ∷ bs) (suc i) (suc k) h = ⊎_elim (λ e. inl (ap suc e)) (λ d. inr d) (fell bs i k h)
 
 module _ {X : Type 0} where
   -- what is chosen from nothing

@@ -99,7 +99,7 @@ by_size P a b ab ba =
     (λ (m : b ≤ a). let high : max a b ≡ a = omega arith in let low : min a b ≡ b = omega arith in rw (high, low) ab)
     (cases_lt a b)
 
--- The groups behind the first k edges of the list.
+-- The groups after the first k edges of the list.
 pub record AreGrouped (n : ℕ) (es : List Edge) (k : ℕ) (parents : List ℕ) : Type 0 where
   pub one_each : length parents ≡ n
   pub lesser : AreLesser parents

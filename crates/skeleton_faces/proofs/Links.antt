@@ -14,7 +14,7 @@ module _ (es : List Edge) (order : List ℕ) (rise : StartsRise es order) where
       (λ (m : j ≤ i). let e : i ≡ j = omega arith in subst (λ (k : ℕ). side_start es (slice_index order i) ≤ side_start es (slice_index order k)) e (omega arith))
       (cases_lt i j)
 
-  -- behind the first other start that start comes no more
+  -- after the first other start that start comes no more
   pub past_last : (last v k : ℕ) → side_start es (slice_index order last) ≡ v → side_start es (slice_index order (last + 1)) ≢ v → last < k → k < length order → side_start es (slice_index order k) ≢ v
   past_last last v k here other l k_in e =
       let up = rise_to last (last + 1) (omega arith) (omega arith) in

@@ -63,7 +63,7 @@ module _ (ps : List Point) (es : List Edge) (is : IsPointSet ps) (clear : AreCle
       from_t : pos 0 <ℤ orient (point_at ps (side_start es t)) (point_at ps (side_end es t)) (point_at ps (side_end es u)) → pos 0 <ℤ orient (point_at ps (side_start es s)) (point_at ps (side_end es t)) (point_at ps (side_end es u))
       from_t h = subst (λ (v : ℕ). pos 0 <ℤ orient (point_at ps v) (point_at ps (side_end es t)) (point_at ps (side_end es u))) st h
 
-  module _ (order : List ℕ) (o : AreTurning ps es order) where
+  module _ (order : List ℕ) (o : AreTurning ps es (λ s. s < 2 * length es) order) where
     side : ℕ → ℕ
     side k = slice_index order k
 
@@ -161,10 +161,10 @@ module _ (ps : List Point) (es : List Edge) (is : IsPointSet ps) (clear : AreCle
             h
 
 -- the links of the order of sides lead from each side to the next one
-pub AreNexts-linked : (ps : List Point) (es : List Edge) (order nexts : List ℕ) → IsPointSet ps → AreClear ps es → AreTurning ps es order → AreLinked es order nexts → AreNexts ps es nexts
-AreNexts-linked ps es order nexts is clear o h =
+pub AreNexts-linked : (ps : List Point) (es : List Edge) (order nexts : List ℕ) → IsPointSet ps → AreClear ps es → AreTurning ps es (λ s. s < 2 * length es) order → length order ≡ 2 * length es → AreLinked es order nexts → AreNexts ps es nexts
+AreNexts-linked ps es order nexts is clear o count h =
     record {
-      one_each = h.one_each ∙ o.count;
+      one_each = h.one_each ∙ count;
       next_in = λ s s_in. let (q, p, q_in, b, s_is, next_is) = link s s_in in subst (λ (x : ℕ). x < 2 * length es) (sym next_is) (o.each p 0 b.p_in);
       on = λ s s_in.
           let (q, p, q_in, b, s_is, next_is) = link s s_in in
@@ -188,12 +188,12 @@ AreNexts-linked ps es order nexts is clear o h =
         (q, p, q_in, b, s_is, ap (slice_index nexts) s_is ∙ is)
 
 -- what the order of sides owes its links
-pub StartsRise-turning : (ps : List Point) (es : List Edge) (order : List ℕ) → AreTurning ps es order → StartsRise es order
+pub StartsRise-turning : (ps : List Point) (es : List Edge) (order : List ℕ) → AreTurning ps es (λ s. s < 2 * length es) order → StartsRise es order
 StartsRise-turning ps es order o i j l j_in =
     let after : ComesAfter ps es (slice_index order i) (slice_index order j) = o.sorted i j 0 l j_in in
     ⊎_elim (λ (m : side_start es (slice_index order i) < side_start es (slice_index order j)). omega arith) (λ k. let k0 = k.0 in omega arith) after
 
-pub distinct_turning : (ps : List Point) (es : List Edge) (order : List ℕ) → IsPointSet ps → AreClear ps es → AreTurning ps es order → AllPairs (λ s t. s ≢ t) order
+pub distinct_turning : (ps : List Point) (es : List Edge) (order : List ℕ) → IsPointSet ps → AreClear ps es → AreTurning ps es (λ s. s < 2 * length es) order → AllPairs (λ s t. s ≢ t) order
 distinct_turning ps es order is clear o i j d l j_in e =
     let i_is = get_or_default order i d 0 (omega arith) in
     let j_is = get_or_default order j d 0 j_in in

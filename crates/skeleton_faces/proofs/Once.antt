@@ -17,22 +17,22 @@ pub record IsLedCycle (ps : List Point) (es : List Edge) (cycle : List ℕ) : Ty
 mod_place : (c : List ℕ) (k : ℕ) → IsSameSide c (k % length c) c k
 mod_place c k = (ap (slice_index c) (mod-mod k (length c)), ap (slice_index c) (mod-add-mod k (length c) 1))
 
-end_place : (c : List ℕ) → IsSameSide c (length c) c 0
+pub end_place : (c : List ℕ) → IsSameSide c (length c) c 0
 end_place c =
     let past : length c + 1 ≡ 1 + length c = omega arith in
     (ap (slice_index c) (mod_self (length c) ∙ sym (zero-mod (length c))), ap (round_at c) past ∙ ap (slice_index c) (add-mod_right 1 (length c)))
 
-same_sym : (c d : List ℕ) (k m : ℕ) → IsSameSide c k d m → IsSameSide d m c k
+pub same_sym : (c d : List ℕ) (k m : ℕ) → IsSameSide c k d m → IsSameSide d m c k
 same_sym c d k m h = (sym h.0, sym h.1)
 
-same_trans : (c d e : List ℕ) (k m n : ℕ) → IsSameSide c k d m → IsSameSide d m e n → IsSameSide c k e n
+pub same_trans : (c d e : List ℕ) (k m n : ℕ) → IsSameSide c k d m → IsSameSide d m e n → IsSameSide c k e n
 same_trans c d e k m n h l = (h.0 ∙ l.0, h.1 ∙ l.1)
 
 no_side_precedes_itself : (c d : List ℕ) (k m : ℕ) → IsSameSide c k d m → SidePrecedes (round_at c k) (round_at c (k + 1)) (round_at d m) (round_at d (m + 1)) → ⊥
 no_side_precedes_itself c d k m same (inl l) = omega (arith, same.0)
 no_side_precedes_itself c d k m same (inr l) = let l1 = l.1 in omega (arith, same.1)
 
-not_before_each_other : (u v x y : ℕ) → SidePrecedes u v x y → SidePrecedes x y u v → ⊥
+pub not_before_each_other : (u v x y : ℕ) → SidePrecedes u v x y → SidePrecedes x y u v → ⊥
 not_before_each_other u v x y (inl h) (inl k) = omega arith
 not_before_each_other u v x y (inl h) (inr k) = let k0 = k.0 in omega arith
 not_before_each_other u v x y (inr h) (inl k) = let h0 = h.0 in omega arith
@@ -49,7 +49,7 @@ module _ (ps : List Point) (es : List Edge) where
       (subst (λ (u : ℕ). IsNextSide ps es u (round_at c (k % n + 1)) (round_at c (k % n + 2))) (mod_place c k).0 here))
 
   -- what follows one side at two places is the same
-  together : (c d : List ℕ) → IsLedCycle ps es c → IsLedCycle ps es d → (k m i : ℕ) → IsSameSide c k d m → IsSameSide c (k + i) d (m + i)
+  pub together : (c d : List ℕ) → IsLedCycle ps es c → IsLedCycle ps es d → (k m i : ℕ) → IsSameSide c k d m → IsSameSide c (k + i) d (m + i)
   together c d hc hd k m zero same =
       let none : (x : ℕ) → x ≡ x + 0 = λ x. omega arith in
       let ahead : (x : ℕ) → x + 1 ≡ x + 0 + 1 = λ x. omega arith in
@@ -89,7 +89,7 @@ module _ (ps : List Point) (es : List Edge) where
           same_trans c c d 0 (length c) (j % length d) (same_sym c c (length c) 0 (end_place c))
           (same_trans c d d (length c) j (j % length d) later (same_sym d d (j % length d) j (mod_place d j)))
 
-  begins_alike : (c d : List ℕ) → IsLedCycle ps es c → IsLedCycle ps es d → (k m : ℕ) → k < length c → m < length d → IsSameSide c k d m → IsSameSide c 0 d 0
+  pub begins_alike : (c d : List ℕ) → IsLedCycle ps es c → IsLedCycle ps es d → (k m : ℕ) → k < length c → m < length d → IsSameSide c k d m → IsSameSide c 0 d 0
   begins_alike c d hc hd k m k_in m_in same =
       ⊎_elim (λ e. e)
       (λ l. ⊎_elim (λ e. same_sym d c 0 0 e) (λ r. absurd (not_before_each_other _ _ _ _ l r))

@@ -16,10 +16,17 @@ use Rattle.skeleton_faces.specs.Tables.{AreBounds, pieces}
 use Rattle.skeleton_faces.specs.Rounds.{AreClosed, AreFollowing, AreTraced, IsCycleFrom, IsRound, IsStart, step_on}
 use Rattle.skeleton_faces.proofs.Cuts.{pieces-append}
 use Rattle.skeleton_faces.proofs.Cycles.{round_is, starts_round}
-use Rattle.skeleton_faces.proofs.Passes.{later_start}
 use Rattle.skeleton_faces.proofs.SideNumbers.{IsSideOf, side_cases, forward_start, forward_end, backward_start, backward_end}
 use Rattle.skeleton_faces.proofs.SideNumbers.IsSideOf.{goes_forward, goes_backward}
 use Rattle.skeleton_faces.proofs.Ways.{step_in}
+
+-- later edges begin no earlier
+later_start : (es : List Edge) (i m : ℕ) → AllPairs EdgePrecedes es → i ≤ m → m < length es → (nth_edge es i).a ≤ (nth_edge es m).a
+later_start es i m up l m_in =
+    ⊎_elim
+    (λ b. let r : EdgePrecedes (nth_edge es i) (nth_edge es m) = up i m _ b m_in in ⊎_elim (λ k. omega arith) (λ k. let k0 = k.0 in omega arith) r)
+    (λ n. let e : i ≡ m = omega arith in subst (λ (x : ℕ). (nth_edge es i).a ≤ (nth_edge es x).a) e (omega arith))
+    (cases_lt i m)
 
 module _ (es : List Edge) (nexts : List ℕ) (f : AreFollowing es nexts) (done : List Bool) (closed : AreClosed nexts done) where
   -- with a side the one after it is not done
@@ -198,7 +205,7 @@ AreTraced-start es nexts sides rounds count h =
     at zero l = omega arith
     at (suc k) l = absurd (omega arith)
 
--- behind all edges no side is left
+-- after all edges no side is left
 pub all_done : (es : List Edge) (nexts : List ℕ) (rounds : Rounds) → AreFollowing es nexts → AreTraced es nexts (length es) rounds → (s : ℕ) → s < length nexts → get_or rounds.done.items s false ≡ true
 all_done es nexts rounds f t s s_in =
     ⊎_elim (λ up. up)

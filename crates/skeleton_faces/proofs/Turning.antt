@@ -5,7 +5,7 @@ use Rattle.std.proofs.lemmas.Bool.{cases_lt, false≢true}
 use Rattle.std.proofs.lemmas.Cmp.{by_ranked, int_ranked, ranked}
 use Rattle.std.proofs.lemmas.Int.{ints, by_lt_z}
 use Rattle.std.proofs.lemmas.List.{get_or-map, length-map}
-use Rattle.std.proofs.lemmas.List.Elements.{All-map, All-weaker}
+use Rattle.std.proofs.lemmas.List.Elements.{All-map}
 use Rattle.exact_predicates.specs.declared.edge.Edge.{Edge}
 use Rattle.exact_predicates.specs.declared.point.Point.{Point}
 use Rattle.exact_predicates.specs.Plane.{orient}
@@ -132,19 +132,18 @@ not_in_line ps es s t is clear s_in t_in apart start same on = at s t (side_case
     at s t (goes_backward e) (goes_forward f) s_in t_in apart start same on = false≢true (sym (forward_is f) ∙ (sym same ∙ backward_is e))
 
 -- the sides of rays in their order
-pub AreTurning-map : (ps : List Point) (es : List Edge) (rays : List Ray) (order : List ℕ) → IsPointSet ps → AreClear ps es → AreRays ps es rays → order ≡ map (λ r. r.side) rays → AreTurning ps es order
-AreTurning-map ps es rays order is clear h order_is =
-    subst (AreTurning ps es) (sym order_is)
+pub AreTurning-map : (ps : List Point) (es : List Edge) (P : ℕ → Type 0) (rays : List Ray) (order : List ℕ) → IsPointSet ps → AreClear ps es → AreRays ps es P rays → order ≡ map (λ r. r.side) rays → AreTurning ps es P order
+AreTurning-map ps es P rays order is clear h order_is =
+    subst (AreTurning ps es P) (sym order_is)
     (record {
-      count = length-map rays (λ (r : Ray). r.side) ∙ h.count;
-      each = All-map (λ s. s < 2 * length es) (λ (r : Ray). r.side) rays (All-weaker (IsRay ps es) (λ r. r.side < 2 * length es) (λ r k. k.side_in) rays h.each);
+      each = All-map P (λ (r : Ray). r.side) rays h.shown.only;
       all = found;
       sorted = λ i j d l j_in. after i j d l (omega (arith, length-map rays (λ (r : Ray). r.side)));
     })
   where
-    found : (s : ℕ) → s < 2 * length es → Contains (map (λ (r : Ray). r.side) rays) s
-    found s s_in =
-        let (k, r, k_in, at_k, r_is) = h.all s s_in in
+    found : (s : ℕ) → P s → Contains (map (λ (r : Ray). r.side) rays) s
+    found s p =
+        let (k, r, k_in, at_k, r_is) = h.shown.all s p in
         (k, omega (arith, length-map rays (λ (x : Ray). x.side)), get_or-map (λ (x : Ray). x.side) rays k r s k_in ∙ (ap (λ (x : Ray). x.side) at_k ∙ r_is))
 
     follows : (r t : Ray) → IsRay ps es r → IsRay ps es t → r.side ≢ t.side → is_lt (ray_cmp t r) ≡ false → ComesAfter ps es r.side t.side
@@ -175,4 +174,4 @@ AreTurning-map ps es rays order is clear h order_is =
     after : (i j d : ℕ) → i < j → j < length rays → ComesAfter ps es (get_or (map (λ (r : Ray). r.side) rays) i d) (get_or (map (λ (r : Ray). r.side) rays) j d)
     after i j d l j_in =
         rw (get_or-map (λ (x : Ray). x.side) rays i some_ray d (omega arith), get_or-map (λ (x : Ray). x.side) rays j some_ray d j_in)
-        (follows (get_or rays i some_ray) (get_or rays j some_ray) (h.each i some_ray (omega arith)) (h.each j some_ray j_in) (h.distinct i j some_ray l j_in) (h.sorted i j some_ray l j_in))
+        (follows (get_or rays i some_ray) (get_or rays j some_ray) (h.shown.each i some_ray (omega arith)) (h.shown.each j some_ray j_in) (h.shown.distinct i j some_ray l j_in) (h.sorted i j some_ray l j_in))

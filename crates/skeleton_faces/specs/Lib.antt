@@ -1,9 +1,12 @@
 pub mod Faces
+pub mod Fans
 pub mod Groups
 pub mod Marks
 pub mod Rays
+pub mod Reaches
 pub mod Rounds
 pub mod Sides
 pub mod Tables
 pub mod Turning
+pub mod Uniqueness
 pub mod Walks

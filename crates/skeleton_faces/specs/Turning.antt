@@ -1,10 +1,11 @@
 -- The order in which points see the ends of their edges.
-use Rattle.std.specs.Prelude.{◌≡◌, ◌≢◌, ◌⊎◌, ℕ, ◌+◌, ◌*◌, ◌<◌, ◌≤◌, List, true, false, length, All, AllPairs, Contains, slice_index, pos, ◌<ℤ◌}
+use Rattle.std.specs.Prelude.{◌≡◌, ◌≢◌, ◌⊎◌, ℕ, ◌+◌, ◌*◌, ◌<◌, ◌≤◌, List, Bool, true, false, length, All, AllPairs, Contains, slice_index, slice_index_or, pos, ◌<ℤ◌}
 use Rattle.exact_predicates.specs.declared.edge.Edge.{Edge}
 use Rattle.exact_predicates.specs.declared.point.Point.{Point}
 use Rattle.exact_predicates.specs.Plane.{orient}
 use Rattle.exact_predicates.specs.PointSet.{point_at}
 use Rattle.skeleton_faces.specs.Faces.{IsNextSide}
+use Rattle.skeleton_faces.specs.Marks.{nth_edge}
 use Rattle.skeleton_faces.specs.Sides.{is_backward, side_start, side_end, twin}
 
 -- going round the start of s and t to the left, from straight down, t comes after s: s goes forward and t backward, or
@@ -18,12 +19,19 @@ TurnsTo ps es s t =
 abbrev pub ComesAfter : List Point → List Edge → ℕ → ℕ → Type 0
 ComesAfter ps es s t = (side_start es s < side_start es t) ⊎ ((side_start es s ≡ side_start es t) × TurnsTo ps es s t)
 
--- The sides of the edges, start by start, and round each start to the left.
-pub record AreTurning (ps : List Point) (es : List Edge) (order : List ℕ) : Type 0 where
-  pub count : length order ≡ 2 * length es
-  pub each : All (λ s. s < 2 * length es) order
-  pub all : (s : ℕ) → s < 2 * length es → Contains order s
+-- The sides of the edges with P, start by start, and round each start to the left.
+pub record AreTurning (ps : List Point) (es : List Edge) (P : ℕ → Type 0) (order : List ℕ) : Type 0 where
+  pub each : All P order
+  pub all : (s : ℕ) → P s → Contains order s
   pub sorted : AllPairs (ComesAfter ps es) order
+
+-- Edges of which the flag is set, by number: by their lesser ends, and round each lesser end to the left.
+pub record AreFannedOut (ps : List Point) (es : List Edge) (flags : List Bool) (order : List ℕ) : Type 0 where
+  pub each : All (λ e. (e < length es) × (slice_index_or flags e false ≡ true)) order
+  pub all : (e : ℕ) → slice_index_or flags e false ≡ true → Contains order e
+  pub sorted : AllPairs (λ e f. ((nth_edge es e).a < (nth_edge es f).a)
+      ⊎ (((nth_edge es e).a ≡ (nth_edge es f).a)
+      × (pos 0 <ℤ orient (point_at ps (nth_edge es e).a) (point_at ps (nth_edge es e).b) (point_at ps (nth_edge es f).b)))) order
 
 -- Going round the start of the side at the place q to the right, the side at the place p is the next one: it stands just
 -- before it, or the one is the first with this start and the other the last.

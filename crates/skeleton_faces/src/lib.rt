@@ -1,18 +1,22 @@
 //! The skeleton of the live edges, its faces, and whether it joins all points.
 //!
-//! The skeleton is found by one pass along the edges in their order, since edges that cross overlap in
-//! the order of points. Faces are the cycles of one rule, which of two sides follows which: the sides
-//! are sorted once, start by start and round each start, so that the next side is a neighbour in this
-//! list. The definitions of walk, next side and face stand in `specs/`.
+//! The skeleton is found by the angles of live triangles: of the edges that cross a given one, the one
+//! that it meets first has that edge's end as the third corner of its triangle, or has no triangle there.
+//! Faces are the cycles of one rule, which of two sides follows which: the sides are sorted once, start
+//! by start and round each start, so that the next side is a neighbour in this list. The definitions of
+//! walk, next side and face stand in `specs/`.
 #![tactic(auto)]
 
 mod all_faces;
+mod bare;
 mod crossings;
 mod face_list;
+mod fans;
+mod law;
 mod live_skeleton;
-mod pass;
 mod ray;
 mod rays;
+mod reaches;
 mod rounds;
 mod sides;
 mod turns;
@@ -20,5 +24,6 @@ mod union;
 
 pub use all_faces::faces;
 pub use face_list::Faces;
+pub use law::unique_faces_law;
 pub use live_skeleton::skeleton;
 pub use union::connected;

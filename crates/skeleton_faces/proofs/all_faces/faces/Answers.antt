@@ -14,16 +14,16 @@ pub nexts-requires-clause-distinct : goal.nexts-requires-clause-distinct
 nexts-requires-clause-distinct c =
     let clear = subst (AreClear c.args.points.now.points) (sym c.as_slice-edges.ensures.is) c.requires in
     let Distinct : List ℕ → Type 0 = AllPairs (λ s t. s ≢ t) in
-    subst Distinct (sym c.deref.ensures.value) (distinct_turning _ _ _ c.as_slice.ensures.valid clear (rw c.as_slice.ensures.is at c.in_ok-order.ensures))
+    subst Distinct (sym c.deref.ensures.value) (distinct_turning _ _ _ c.as_slice.ensures.valid clear (rw c.as_slice.ensures.is at c.in_ok-order.ensures.turning))
 
 pub nexts-requires-clause-rise : goal.nexts-requires-clause-rise
-nexts-requires-clause-rise c = subst (StartsRise c.as_slice-edges.result.now) (sym c.deref.ensures.value) (StartsRise-turning c.as_slice.result.now _ _ c.in_ok-order.ensures)
+nexts-requires-clause-rise c = subst (StartsRise c.as_slice-edges.result.now) (sym c.deref.ensures.value) (StartsRise-turning c.as_slice.result.now _ _ c.in_ok-order.ensures.turning)
 
 pub loop-edge-init : goal.loop-edge-init
 loop-edge-init c =
     let clear = subst (AreClear c.args.points.now.points) (sym c.as_slice-edges.ensures.is) c.requires in
     let linked = rw c.deref.ensures.value at c.in_ok-nexts.ensures in (
-      AreNexts-linked c.args.points.now.points c.as_slice-edges.result.now _ _ c.as_slice.ensures.valid clear (rw c.as_slice.ensures.is at c.in_ok-order.ensures) linked,
+      AreNexts-linked c.args.points.now.points c.as_slice-edges.result.now _ _ c.as_slice.ensures.valid clear (rw c.as_slice.ensures.is at c.in_ok-order.ensures.turning) c.in_ok-order.ensures.count linked,
       AreTraced-start c.as_slice-edges.result.now c.in_ok-nexts.nexts.items _ _ (sym (c.len.ensures ∙ c.in_ok-nexts.nexts.ok.0)) c.in_ok-rounds.ensures,
     )
 

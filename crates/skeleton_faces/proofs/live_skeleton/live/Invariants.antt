@@ -1,6 +1,0 @@
-use Rattle.std.proofs.Common.{◌≡◌, take}
-use Rattle.std.specs.List.{items_where_true}
-use Rattle.skeleton_faces.proofs.live_skeleton.live.Given as goal
-
-abbrev pub invariant-loop-e : goal.invariant-loop-e
-invariant-loop-e l = l.live.items ≡ items_where_true l.flags (take l.e l.net.edges)
