@@ -11,7 +11,7 @@ use Rattle.lmt_network.specs.Prices.{anchors_of, bound, int_sum_by}
 use Rattle.lmt_network.specs.Flags.{live_numbers}
 use Rattle.lmt_network.proofs.IntSums.{int_sum_by-cons, int_sum_by-map}
 use Rattle.price_ascent.specs.declared.entry.Entry.{Entry}
-use Rattle.price_ascent.specs.Belonging.{BelongTo}
+use Rattle.price_ascent.specs.Belonging.{AreEntriesOf}
 use Rattle.price_ascent.specs.Entries.{entry, live_of, prices_of, table_of}
 use Rattle.price_ascent.specs.Sums.{anchors_from, live_from}
 use Rattle.price_ascent.proofs.Kept.{entry_at-kept, live_at}
@@ -25,7 +25,7 @@ pub anchors_off : (n : NetworkParts) (es : List Entry) (e : ℕ) → on_hull n e
 anchors_off n es e off = ap (anchors_of n.hull) (entry_at-kept n es e) ∙ cond-false (on_hull n e) _ _ off
 
 -- a killed edge has none
-dead_anchors : (n : NetworkParts) (es : List Entry) (e : ℕ) → BelongTo n es → e < length n.edges → (entry es e).live ≡ false → anchors_of n.hull (entry_at n (table_of es) e) ≡ pos 0
+dead_anchors : (n : NetworkParts) (es : List Entry) (e : ℕ) → AreEntriesOf n es → e < length n.edges → (entry es e).live ≡ false → anchors_of n.hull (entry_at n (table_of es) e) ≡ pos 0
 dead_anchors n es e b e_in dead =
     at (on_hull n e) refl (entry es e).anchored refl
   where
@@ -53,7 +53,7 @@ from_at es e b e_in is =
     ap (λ bs. items_where_true bs (drop e numbers)) flag ∙ ap (λ xs. items_where_true (b ∷ drop (e + 1) flags) xs) number
 
 -- one edge less is left
-pub anchors_next : (n : NetworkParts) (es : List Entry) (e : ℕ) → BelongTo n es → e < length n.edges
+pub anchors_next : (n : NetworkParts) (es : List Entry) (e : ℕ) → AreEntriesOf n es → e < length n.edges
     → anchors_from n es e ≡ anchors_of n.hull (entry_at n (table_of es) e) +ℤ anchors_from n es (e + 1)
 anchors_next n es e b e_in = at (entry es e).live refl
   where
@@ -74,7 +74,7 @@ anchors_all n es =
     let is = int_sum_by-map (anchors_of n.hull) (entry_at n (table_of es)) (live_numbers (live_of es)) in
     omega (arith, ints, is)
 
-pub anchors_none : (n : NetworkParts) (es : List Entry) (e : ℕ) → BelongTo n es → length n.edges ≤ e → anchors_from n es e ≡ pos 0
+pub anchors_none : (n : NetworkParts) (es : List Entry) (e : ℕ) → AreEntriesOf n es → length n.edges ≤ e → anchors_from n es e ≡ pos 0
 anchors_none n es e b past =
     let many : length (live_of es) ≤ e = let l = length-map es (λ (p : Entry). p.live) in let one = b.one_each in omega arith in
     ap (λ bs. int_sum_by (λ k. anchors_of n.hull (entry_at n (table_of es) k)) (items_where_true bs (drop e (range_with_len 0 (length (live_of es)))))) (drop_all e (live_of es) many)

@@ -1,6 +1,7 @@
 -- Edges that are given anchors.
 use Rattle.std.proofs.Common.{◌≡◌, ◌≢◌, ℕ, ◌<◌, Bool, true, false, List, ◌∷◌, [], ◌++◌, length, map, set, Contains, refl, ap, sym, ◌∙◌, subst, arith, ⊎_elim}
 use Rattle.std.proofs.lemmas.Bool.{cases_eq, false≢true}
+use Rattle.std.proofs.lemmas.Int.{ints}
 use Rattle.std.proofs.lemmas.List.{get_or_default}
 use Rattle.std.proofs.lemmas.List.Elements.{Contains-append_left, Contains-push, Contains-push_cases}
 use Rattle.exact_predicates.specs.declared.edge.Edge.{Edge}
@@ -16,12 +17,14 @@ use Rattle.lmt_network.specs.Flags.{live_numbers}
 use Rattle.lmt_network.proofs.Naming.{edge_at-once}
 use Rattle.lmt_network.proofs.Picked.{picked_from, picked_in}
 use Rattle.price_ascent.specs.declared.entry.Entry.{Entry}
-use Rattle.price_ascent.specs.Belonging.{BelongTo, IsEntryOf}
+use Rattle.price_ascent.specs.Ascent.{value_at}
+use Rattle.price_ascent.specs.Belonging.{BelongTo, IsEntryOf, IsZeroWhereBare}
 use Rattle.price_ascent.specs.Entries.{anchored_edges, entry, live_of, no_entry, prices_of, table_of}
 use Rattle.price_ascent.specs.Steps.{anchored}
-use Rattle.price_ascent.proofs.Changed.{IsChange, belong_changed, live_same, new_entry, other_entry}
+use Rattle.price_ascent.proofs.Changed.{IsChange, bare_changed, entries_changed, live_same, new_entry, other_entry}
 use Rattle.price_ascent.proofs.Ends.{ends_up}
-use Rattle.price_ascent.proofs.Kept.{get_or-mapped, live_at, same_table}
+use Rattle.price_ascent.proofs.Kept.{get_or-mapped, live_at, same_table, value_is}
+use Rattle.price_ascent.proofs.Narrow.{belong_kept}
 use Rattle.price_ascent.proofs.RaisedSides.{field_kept}
 use Rattle.price_ascent.proofs.Tightness.{anchored-number}
 
@@ -31,16 +34,15 @@ anchored-table es e =
     let x = anchored (entry es e) in
     same_table _ _ _ _ _ _ (field_kept es e x (λ q. q.value) refl) (field_kept es e x (λ q. q.left) refl) (field_kept es e x (λ q. q.right) refl)
 
-pub anchored-belong : (n : NetworkParts) (es fs : List Entry) (e : ℕ) → IsChange n es fs e (anchored (entry es e)) → (entry es e).live ≡ true → ¬ IsHullNumber n e → BelongTo n fs
-anchored-belong n es fs e c live inner =
+pub anchored-belong : (n : NetworkParts) (es fs : List Entry) (e : ℕ) → BelongTo n es → IsChange n es fs e (anchored (entry es e)) → (entry es e).live ≡ true → ¬ IsHullNumber n e → BelongTo n fs
+anchored-belong n es fs e b c live inner =
     let x = anchored (entry es e) in
-    let a = (edge_at n e).a in
-    let b = (edge_at n e).b in
-    let h = c.belong.each e c.e_in in
+    let h = c.entries.each e c.e_in in
+    let table = ap table_of c.is ∙ anchored-table es e in
     let same : prices_of n fs ≡ prices_of n es
-    = ap (λ (t : PriceTable). table_prices n t (live_numbers (live_of fs))) (ap table_of c.is ∙ anchored-table es e)
+    = ap (λ (t : PriceTable). table_prices n t (live_numbers (live_of fs))) table
     ∙ ap (λ (bs : List Bool). table_prices n (table_of es) (live_numbers bs)) (live_same n es fs e x c) in
-    let own : IsEntryOf n (prices_of n es) e a b x
+    let own : IsEntryOf n (prices_of n es) e (edge_at n e).a (edge_at n e).b x
     = record {
       price = h.price;
       anchor = h.anchor;
@@ -52,12 +54,14 @@ anchored-belong n es fs e c live inner =
       hull_live = h.hull_live;
       inner = λ on. (live, inner);
       elsewhere = λ off. absurd (false≢true (sym off));
-      bare_hull = h.bare_hull;
-      bare_left = h.bare_left;
-      bare_right = h.bare_right;
     } in
-    belong_changed n es fs e x c (subst (λ (ps : List Priced). IsEntryOf n ps e a b x) (sym same) own)
-    (subst (λ (ps : List Priced). IsFeasible n.points n.hull ps) (sym same) c.belong.feasible)
+    let zero : IsZeroWhereBare n (prices_of n es) e x = let z = b.bare e c.e_in in record { hull = z.hull; left = z.left; right = z.right } in
+    let value : (k : ℕ) → (entry fs k).value ≡ (entry es k).value = λ k. sym (value_is fs k) ∙ (ap (λ (t : PriceTable). value_at t k) table ∙ value_is es k) in
+    belong_kept n es fs b (entries_changed n es fs e x c (subst (λ (ps : List Priced). IsEntryOf n ps e (edge_at n e).a (edge_at n e).b x) (sym same) own))
+    (bare_changed n es fs e x c zero b.bare)
+    (subst (λ (ps : List Priced). IsFeasible n.points n.hull ps) (sym same) b.feasible)
+    (λ k inner. let is = value k in omega (arith, ints, is))
+    (λ k hull. let is = value k in omega (arith, ints, is))
 
 -- The edges xs have been given anchors, but for those of the hull.
 pub record AreAnchored (n : NetworkParts) (es fs : List Entry) (xs : List Edge) : Type 0 where
@@ -85,7 +89,7 @@ number-edge n e x is = let ends = ends_up n e x.a x.b is x.ascending in Edge-equ
 pub more_anchored : (n : NetworkParts) (es fs gs : List Entry) (xs : List Edge) (x : Edge) (e : ℕ) → AreAnchored n es fs xs → IsNumberOf n x.a x.b e → ¬ IsHullNumber n e
     → BelongTo n gs → gs ≡ set fs e (anchored (entry fs e)) → AreAnchored n es gs (xs ++ x ∷ [])
 more_anchored n es fs gs xs x e h is inner after gs_is =
-    let c : IsChange n fs gs e (anchored (entry fs e)) = record { belong = h.belong; e_in = is.0; is = gs_is; live = refl } in
+    let c : IsChange n fs gs e (anchored (entry fs e)) = record { entries = h.belong.entries; e_in = is.0; is = gs_is; live = refl } in
     let now : (entry gs e).anchored ≡ true = ap (λ (p : Entry). p.anchored) (new_entry n fs gs e (anchored (entry fs e)) c) in
     let edge = number-edge n e x is in
     record {
@@ -104,7 +108,7 @@ more_anchored n es fs gs xs x e h is inner after gs_is =
           (λ (away : k ≢ e). ap (λ (p : Entry). p.anchored) (other_entry n fs gs e (anchored (entry fs e)) k c away)
           ∙ h.back k k_in (⊎_elim
           (λ (old : Contains xs (edge_at n k)). old)
-          (λ (new : x ≡ edge_at n k). absurd (away (edge_at-once n k e h.belong.network.ascending k_in is.0 (sym new ∙ sym edge))))
+          (λ (new : x ≡ edge_at n k). absurd (away (edge_at-once n k e h.belong.entries.network.ascending k_in is.0 (sym new ∙ sym edge))))
           (Contains-push_cases xs x (edge_at n k) has)) out)
           (cases_eq k e);
     }
@@ -120,7 +124,7 @@ hull_passed n es fs xs x e h is hull =
       back = λ k k_in has out. h.back k k_in (⊎_elim
           (λ (old : Contains xs (edge_at n k)). old)
           (λ (new : x ≡ edge_at n k).
-          let same : k ≡ e = edge_at-once n k e h.belong.network.ascending k_in is.0 (sym new ∙ sym (number-edge n e x is)) in
+          let same : k ≡ e = edge_at-once n k e h.belong.entries.network.ascending k_in is.0 (sym new ∙ sym (number-edge n e x is)) in
           absurd (out (subst (IsHullNumber n) (sym same) hull)))
           (Contains-push_cases xs x (edge_at n k) has)) out;
     }
@@ -136,7 +140,7 @@ live_edge n es x has =
 pub live_number_of : (n : NetworkParts) (es : List Entry) (x : Edge) (e : ℕ) → BelongTo n es → Contains (live_edges n (live_of es)) x → IsNumberOf n x.a x.b e → (entry es e).live ≡ true
 live_number_of n es x e b has is =
     let k = live_edge n es x has in
-    let same : k.0 ≡ e = edge_at-once n k.0 e b.network.ascending k.1.0 is.0 (number-edge n k.0 x k.1 ∙ sym (number-edge n e x is)) in
+    let same : k.0 ≡ e = edge_at-once n k.0 e b.entries.network.ascending k.1.0 is.0 (number-edge n k.0 x k.1 ∙ sym (number-edge n e x is)) in
     ap (λ (j : ℕ). (entry es j).live) (sym same) ∙ k.2
 
 -- the anchored edges are those that were given anchors

@@ -1,5 +1,5 @@
 -- How the slack of a triangle changes with the share of one side.
-use Rattle.std.proofs.Common.{◌≡◌, ◌⊎◌, ℕ, ℤ, ◌+ℤ◌, ◌≤ℤ◌, arith, refl, sym, ◌∙◌, subst, ⊎_elim, inl, inr}
+use Rattle.std.proofs.Common.{◌≡◌, ◌⊎◌, ℕ, ◌<◌, ℤ, ◌+ℤ◌, ◌≤ℤ◌, arith, refl, ap, sym, ◌∙◌, subst, ⊎_elim, inl, inr}
 use Rattle.std.proofs.lemmas.Bool.{cases_eq}
 use Rattle.std.proofs.lemmas.Int.{ints}
 use Rattle.exact_predicates.specs.declared.tri.Tri.{Tri}
@@ -21,6 +21,35 @@ second t = (t.a, inr (inl (refl, refl, refl)))
 
 third : (t : Tri) → HasSide t t.c t.a
 third t = (t.b, inr (inr (refl, refl, refl)))
+
+-- the three shares beside that of one side, where none of the others is more than k
+pub sum-beside : (f : ℕ → ℕ → ℤ) (t : Tri) (u v : ℕ) (k : ℤ) → ((x y : ℕ) → HasSide t x y → f x y ≤ℤ k) → HasSide t u v → side_sum f t ≤ℤ (f u v +ℤ (k +ℤ k))
+sum-beside f t u v k high (w, corners) =
+    let ab = high t.a t.b (first t) in
+    let bc = high t.b t.c (second t) in
+    let ca = high t.c t.a (third t) in
+    ⊎_elim
+    (λ c. let is : f u v ≡ f t.a t.b = ap (λ x. f x v) (sym c.0) ∙ ap (f t.a) (sym c.1) in omega (arith, ints, is, bc, ca))
+    (λ o. ⊎_elim
+    (λ c. let is : f u v ≡ f t.b t.c = ap (λ x. f x v) (sym c.0) ∙ ap (f t.b) (sym c.1) in omega (arith, ints, is, ab, ca))
+    (λ c. let is : f u v ≡ f t.c t.a = ap (λ x. f x v) (sym c.0) ∙ ap (f t.c) (sym c.1) in omega (arith, ints, is, ab, bc))
+    o)
+    corners
+
+-- and beside that of a side that goes up, where none that goes down is more than j
+pub sum-beside_up : (f : ℕ → ℕ → ℤ) (t : Tri) (u v : ℕ) (j k : ℤ) → ((x y : ℕ) → HasSide t x y → f x y ≤ℤ k) → ((x y : ℕ) → HasSide t x y → y < x → f x y ≤ℤ j)
+    → HasSide t u v → u < v → side_sum f t ≤ℤ (f u v +ℤ (k +ℤ j))
+sum-beside_up f t u v j k high low (w, corners) l =
+    let ab = high t.a t.b (first t) in
+    let bc = high t.b t.c (second t) in
+    let ca = low t.c t.a (third t) t.below_c in
+    ⊎_elim
+    (λ c. let is : f u v ≡ f t.a t.b = ap (λ x. f x v) (sym c.0) ∙ ap (f t.a) (sym c.1) in omega (arith, ints, is, bc, ca))
+    (λ o. ⊎_elim
+    (λ c. let is : f u v ≡ f t.b t.c = ap (λ x. f x v) (sym c.0) ∙ ap (f t.b) (sym c.1) in omega (arith, ints, is, ab, ca))
+    (λ c. let below = t.below_c in let is_u = c.0 in let is_v = c.1 in absurd (omega (arith, l, below, is_u, is_v)))
+    o)
+    corners
 
 -- a side that does not begin at x
 other : (f g : ℕ → ℕ → ℤ) (x y : ℕ) (t : Tri) (u v : ℕ) → AreUpTo f g x y t → HasSide t u v → ¬ (u ≡ x) → f u v ≤ℤ g u v

@@ -9,7 +9,7 @@ use Rattle.lmt_network.specs.Numbers.{HasSide}
 use Rattle.lmt_network.specs.Prices.{slack}
 use Rattle.price_ascent.specs.declared.entry.Entry.{Entry}
 use Rattle.price_ascent.specs.Ascent.{IsLeastSlack, IsLiveOn}
-use Rattle.price_ascent.specs.Belonging.{BelongTo}
+use Rattle.price_ascent.specs.Belonging.{AreEntriesOf}
 use Rattle.price_ascent.specs.Entries.{prices_of}
 use Rattle.price_ascent.specs.Steps.{AreSidesLive, IsLeastUpto, slack_at}
 use Rattle.price_ascent.proofs.LiveSides.{live_triangle, tri_of, triangle_live}
@@ -45,7 +45,7 @@ least_more n es row i (Some m) r h live low below one =
     )
 
 -- the whole row of a side has the live triangles with this side
-pub least_all : (n : NetworkParts) (es : List Entry) (row : List ℕ) (u v i : ℕ) (least : Option ℤ) → BelongTo n es
+pub least_all : (n : NetworkParts) (es : List Entry) (row : List ℕ) (u v i : ℕ) (least : Option ℤ) → AreEntriesOf n es
     → ((t : ℕ) → Contains row t ↔ ((t < length n.tris) × HasSide (tri_at n t) u v)) → length row ≤ i → i ≤ length row → IsLeastUpto n es row i least
     → IsLeastSlack n.points n.hull (prices_of n es) u v (unwrap_or least (pos 0))
 least_all n es row u v i least b members all within h = at least h

@@ -10,6 +10,7 @@ pub mod Leasts
 pub mod LiveSides
 pub mod Lowering
 pub mod Mixing
+pub mod Narrow
 pub mod OnceEach
 pub mod OneAscent
 pub mod OneSweep
@@ -18,6 +19,7 @@ pub mod Raised
 pub mod RaisedSides
 pub mod Raising
 pub mod RaisingHull
+pub mod Repricing
 pub mod Rises
 pub mod Shares
 pub mod Sides

@@ -1,18 +1,20 @@
 -- A price that falls by the least slack on its right side.
-use Rattle.std.proofs.Common.{◌≡◌, ◌≢◌, ℕ, true, false, List, ℤ, pos, ◌+ℤ◌, ◌-ℤ◌, ◌≤ℤ◌, ap, sym, ◌∙◌, subst, arith, ⊎_elim, inl, inr}
+use Rattle.std.proofs.Common.{◌≡◌, ◌≢◌, ℕ, true, false, List, ℤ, pos, ◌+ℤ◌, ◌-ℤ◌, ◌≤ℤ◌, set, refl, ap, sym, ◌∙◌, subst, arith, ⊎_elim, inl, inr}
 use Rattle.std.proofs.lemmas.Bool.{cases_Bool, cases_eq, false≢true}
 use Rattle.std.proofs.lemmas.Int.{clamps, ints}
+use Rattle.std.proofs.lemmas.List.{set-get_or}
 use Rattle.exact_predicates.specs.declared.tri.Tri.{Tri}
 use Rattle.lmt_network.specs.Network.{NetworkParts, edge_at}
 use Rattle.lmt_network.specs.Numbers.{HasSide, IsHullNumber, IsNumberOf}
 use Rattle.lmt_network.specs.Prices.{IsFeasible, IsLiveTriangle, share, slack}
 use Rattle.price_ascent.specs.declared.entry.Entry.{Entry}
 use Rattle.price_ascent.specs.Ascent.{IsLeastSlack, IsLiveOn, lowest}
-use Rattle.price_ascent.specs.Belonging.{BelongTo}
-use Rattle.price_ascent.specs.Entries.{entry, prices_of}
+use Rattle.price_ascent.specs.Belonging.{AreEntriesOf}
+use Rattle.price_ascent.specs.Entries.{entry, no_entry, prices_of}
 use Rattle.price_ascent.specs.Steps.{lowered}
-use Rattle.price_ascent.proofs.Changed.{IsChange, bare_back, belong_changed, hull_of, live_back, new_entry, changed_length, share-other, which_side}
+use Rattle.price_ascent.proofs.Changed.{IsChange, changed_length, entries_changed, live_back, new_entry, share-other, which_side}
 use Rattle.price_ascent.proofs.Changes.{AreUpTo, side_or_not, with_side, without_side}
+use Rattle.price_ascent.proofs.Equal.{same_entry}
 use Rattle.price_ascent.proofs.LiveSides.{side_number}
 use Rattle.price_ascent.proofs.Shares.{has_shares, hull_number, on_hull, own_shares}
 use Rattle.price_ascent.proofs.SlackBounds.{least_fits}
@@ -23,6 +25,7 @@ inner_off n e inner = ⊎_elim (λ on. absurd (inner (hull_number n e on))) (λ 
 -- What lowering the price of the inner edge e by m changes.
 pub record IsFall (n : NetworkParts) (es fs : List Entry) (e : ℕ) (m : ℤ) : Type 0 where
   pub change : IsChange n es fs e (lowered (entry es e) m)
+  pub feasible : IsFeasible n.points n.hull (prices_of n es)
   pub live : (entry es e).live ≡ true
   pub inner : ¬ IsHullNumber n e
   pub least : IsLeastSlack n.points n.hull (prices_of n es) (edge_at n e).b (edge_at n e).a m
@@ -33,9 +36,9 @@ fall es e m = (entry es e).value -ℤ (lowered (entry es e) m).value
 
 pub fall_is : (n : NetworkParts) (es fs : List Entry) (e : ℕ) (m : ℤ) → IsFall n es fs e m → (pos 0 ≤ℤ fall es e m) × (fall es e m ≤ℤ m) × (lowest ≤ℤ (lowered (entry es e) m).value)
 fall_is n es fs e m f =
-    let p = (f.change.belong.each e f.change.e_in).price f.inner in
+    let p = (f.change.entries.each e f.change.e_in).price f.inner in
     let low = p.0 in
-    let some = (least_fits n es (edge_at n e).b (edge_at n e).a m f.change.belong f.least).0 in
+    let some = (least_fits n es (edge_at n e).b (edge_at n e).a m f.change.entries f.feasible f.least).0 in
     (omega (arith, ints, clamps, low, some), omega (arith, ints, clamps, low, some), omega (arith, ints, clamps))
 
 -- the shares after the fall
@@ -45,9 +48,9 @@ pub shares_fallen : (n : NetworkParts) (es fs : List Entry) (e : ℕ) (m : ℤ) 
 shares_fallen n es fs e m f =
     let c = f.change in
     let off = inner_off n e f.inner in
-    let old = own_shares n es e c.belong c.e_in f.live in
+    let old = own_shares n es e c.entries c.e_in f.live in
     let is = new_entry n es fs e (lowered (entry es e) m) c in
-    let new = has_shares n fs e c.belong.network (changed_length n es fs e (lowered (entry es e) m) c) c.e_in (ap (λ (p : Entry). p.live) is ∙ f.live) in
+    let new = has_shares n fs e c.entries.network (changed_length n es fs e (lowered (entry es e) m) c) c.e_in (ap (λ (p : Entry). p.live) is ∙ f.live) in
     let old_up = old.off_up off in
     let old_down = old.off_down off in
     let new_up = new.off_up off in
@@ -61,14 +64,14 @@ shares_fallen n es fs e m f =
 fallen_sides : (n : NetworkParts) (es fs : List Entry) (e : ℕ) (m : ℤ) (t : Tri) → IsFall n es fs e m → IsLiveTriangle n.points (prices_of n es) t
     → AreUpTo (share n.points n.hull (prices_of n es)) (share n.points n.hull (prices_of n fs)) (edge_at n e).b (edge_at n e).a t
 fallen_sides n es fs e m t f over u v side =
-    let k = side_number n es t u v f.change.belong.one_each over side in
+    let k = side_number n es t u v f.change.entries.one_each over side in
     let s = share n.points n.hull (prices_of n es) in
     let r = share n.points n.hull (prices_of n fs) in
     ⊎_elim
     (λ (same : k.0 ≡ e).
     ⊎_elim
     (λ (p : (u ≡ (edge_at n e).a) × (v ≡ (edge_at n e).b)).
-    let old = (f.change.belong.each e f.change.e_in).up f.live in
+    let old = (f.change.entries.each e f.change.e_in).up f.live in
     let new = (shares_fallen n es fs e m f).0 in
     let some = (fall_is n es fs e m f).0 in
     let more : s (edge_at n e).a (edge_at n e).b ≤ℤ r (edge_at n e).a (edge_at n e).b = omega (arith, ints, old, new, some) in
@@ -79,7 +82,7 @@ fallen_sides n es fs e m t f over u v side =
     (cases_eq k.0 e)
 
 -- the prices stay feasible
-fallen_feasible : (n : NetworkParts) (es fs : List Entry) (e : ℕ) (m : ℤ) → IsFall n es fs e m → IsFeasible n.points n.hull (prices_of n fs)
+pub fallen_feasible : (n : NetworkParts) (es fs : List Entry) (e : ℕ) (m : ℤ) → IsFall n es fs e m → IsFeasible n.points n.hull (prices_of n fs)
 fallen_feasible n es fs e m f t over =
     let c = f.change in
     let a = (edge_at n e).a in
@@ -88,10 +91,10 @@ fallen_feasible n es fs e m f t over =
     let r = share n.points n.hull (prices_of n fs) in
     let was = live_back n es fs e (lowered (entry es e) m) t c over in
     let each = fallen_sides n es fs e m t f was in
-    let feasible = c.belong.feasible t was in
+    let feasible = f.feasible t was in
     ⊎_elim
     (λ (side : HasSide t b a).
-    let old = (c.belong.each e c.e_in).down f.live in
+    let old = (c.entries.each e c.e_in).down f.live in
     let new = (shares_fallen n es fs e m f).1 in
     let most = (fall_is n es fs e m f).1 in
     let d = (lowered (entry es e) m).value -ℤ (entry es e).value in
@@ -107,15 +110,12 @@ fallen_feasible n es fs e m f t over =
     (λ (none : ¬ HasSide t b a). let all = without_side s r b a t each none in omega (arith, ints, all, feasible))
     (side_or_not t b a)
 
--- and all belong to the network
-pub fallen_belong : (n : NetworkParts) (es fs : List Entry) (e : ℕ) (m : ℤ) → IsFall n es fs e m → BelongTo n fs
-fallen_belong n es fs e m f =
+-- and are entries of the network
+pub fallen_entries : (n : NetworkParts) (es fs : List Entry) (e : ℕ) (m : ℤ) → IsFall n es fs e m → AreEntriesOf n fs
+fallen_entries n es fs e m f =
     let c = f.change in
-    let x = lowered (entry es e) m in
-    let h = c.belong.each e c.e_in in
-    let a = (edge_at n e).a in
-    let b = (edge_at n e).b in
-    belong_changed n es fs e x c
+    let h = c.entries.each e c.e_in in
+    entries_changed n es fs e (lowered (entry es e) m) c
     (record {
       price = λ inner. let high = (h.price inner).1 in let some = (fall_is n es fs e m f).0 in ((fall_is n es fs e m f).2, omega (arith, ints, high, some));
       anchor = λ hull. absurd (f.inner hull);
@@ -127,8 +127,13 @@ fallen_belong n es fs e m f =
       hull_live = h.hull_live;
       inner = h.inner;
       elsewhere = h.elsewhere;
-      bare_hull = λ u v is pair bare. absurd (f.inner (hull_of n e u v is pair));
-      bare_left = λ bare. h.bare_left (bare_back n es fs e x a b c bare);
-      bare_right = λ bare. h.bare_right (bare_back n es fs e x b a c bare);
     })
-    (fallen_feasible n es fs e m f)
+
+-- where the price does not fall all stays as it is
+pub not_fallen : (n : NetworkParts) (es fs : List Entry) (e : ℕ) (m : ℤ) → IsFall n es fs e m → (entry es e).value ≤ℤ (lowered (entry es e) m).value → fs ≡ es
+not_fallen n es fs e m f rest =
+    let p = entry es e in
+    let some = (fall_is n es fs e m f).0 in
+    let same : (lowered p m).value ≡ p.value = omega (arith, ints, some, rest) in
+    let is : lowered p m ≡ p = same_entry (lowered p m) p same refl refl (omega (arith, ints, same)) (omega (arith, ints, same)) refl refl in
+    f.change.is ∙ (ap (set es e) is ∙ set-get_or es e no_entry)

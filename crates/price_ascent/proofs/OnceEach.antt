@@ -107,7 +107,7 @@ inner_once (e ∷ es) u v h =
     (cases_lt (count rest u v) 1)
 
 -- no pair of the hull is one in both directions
-one_direction : (ps : List Point) (hull : List ℕ) (u v : ℕ) → IsHull ps hull → IsHullPair hull u v → ¬ IsHullPair hull v u
+pub one_direction : (ps : List Point) (hull : List ℕ) (u v : ℕ) → IsHull ps hull → IsHullPair hull u v → ¬ IsHullPair hull v u
 one_direction ps hull u v h there back =
     let (i, i_in, at_i, next_i) = place_of_pair hull u v there in
     let (j, j_in, at_j, next_j) = place_of_pair hull v u back in

@@ -5,11 +5,11 @@ use Rattle.exact_predicates.specs.declared.tri.Tri.{Tri}
 use Rattle.lmt_network.specs.Network.{NetworkParts}
 use Rattle.lmt_network.specs.Numbers.{IsHullNumber}
 use Rattle.lmt_network.specs.PriceTables.{PriceTable}
-use Rattle.lmt_network.specs.Prices.{slack}
+use Rattle.lmt_network.specs.Prices.{IsFeasible, slack}
 use Rattle.lmt_network.proofs.Picked.{Contains-cases}
 use Rattle.price_ascent.specs.declared.entry.Entry.{Entry}
 use Rattle.price_ascent.specs.Ascent.{IsLeastSlack, IsLiveOn}
-use Rattle.price_ascent.specs.Belonging.{BelongTo}
+use Rattle.price_ascent.specs.Belonging.{AreEntriesOf, AreZeroWhereBare}
 use Rattle.price_ascent.specs.Entries.{entry, live_of, prices_of, table_of}
 use Rattle.price_ascent.specs.Raised.{AreRaised, IsRaisedAlong, IsRaisedNext, IsSettled}
 use Rattle.price_ascent.proofs.LiveSides.{same_live}
@@ -17,8 +17,9 @@ use Rattle.price_ascent.proofs.Rises.{AreRisen}
 
 -- One side has been raised.
 pub record IsOneRaised (n : NetworkParts) (fs gs : List Entry) (u v : ℕ) : Type 0 where
-  pub before : BelongTo n fs
-  pub belong : BelongTo n gs
+  pub before : AreEntriesOf n fs
+  pub entries : AreEntriesOf n gs
+  pub bare : AreZeroWhereBare n fs → AreZeroWhereBare n gs
   pub live : live_of gs ≡ live_of fs
   pub anchored : map (λ p. p.anchored) gs ≡ map (λ p. p.anchored) fs
   pub prices : (e : ℕ) → ¬ IsHullNumber n e → (entry gs e).value ≡ (entry fs e).value
@@ -31,10 +32,12 @@ pub record IsOneRaised (n : NetworkParts) (fs gs : List Entry) (u v : ℕ) : Typ
   pub risen : AreRisen n fs gs u v m
 
 -- no side has been raised yet
-pub none_raised : (n : NetworkParts) (es : List Entry) (sides : List (ℕ × ℕ)) → BelongTo n es → AreRaised n es es sides sides
-none_raised n es sides b =
+pub none_raised : (n : NetworkParts) (es : List Entry) (sides : List (ℕ × ℕ)) → AreEntriesOf n es → IsFeasible n.points n.hull (prices_of n es) → AreRaised n es es sides sides
+none_raised n es sides b feasible =
     record {
-      belong = b;
+      entries = b;
+      feasible = feasible;
+      bare = λ z. z;
       live = refl;
       anchored = refl;
       prices = λ e inner. refl;
@@ -48,17 +51,17 @@ none_raised n es sides b =
 
 -- live triangles before and after
 live_after : (n : NetworkParts) (fs gs : List Entry) (p q u v : ℕ) (t : Tri) → IsOneRaised n fs gs u v → IsLiveOn n.points (prices_of n fs) p q t → IsLiveOn n.points (prices_of n gs) p q t
-live_after n fs gs p q u v t r on = (on.0, same_live n fs gs t r.before.one_each r.belong.one_each (sym r.live) on.1)
+live_after n fs gs p q u v t r on = (on.0, same_live n fs gs t r.before.one_each r.entries.one_each (sym r.live) on.1)
 
 live_before : (n : NetworkParts) (fs gs : List Entry) (p q u v : ℕ) (t : Tri) → IsOneRaised n fs gs u v → IsLiveOn n.points (prices_of n gs) p q t → IsLiveOn n.points (prices_of n fs) p q t
-live_before n fs gs p q u v t r on = (on.0, same_live n gs fs t r.belong.one_each r.before.one_each r.live on.1)
+live_before n fs gs p q u v t r on = (on.0, same_live n gs fs t r.entries.one_each r.before.one_each r.live on.1)
 
 -- a settled side stays so
 keeps_settled : (n : NetworkParts) (fs gs : List Entry) (u v p q : ℕ) → IsOneRaised n fs gs u v → IsSettled n fs p q → IsSettled n gs p q
 keeps_settled n fs gs u v p q r (inl (t, on, zero)) =
     let after = live_after n fs gs p q u v t r on in
     let never = r.risen.never t on.1 in
-    let some = r.belong.feasible t after.1 in
+    let some = r.risen.feasible t after.1 in
     inl (t, after, omega (arith, ints, zero, never, some))
 keeps_settled n fs gs u v p q r (inr bare) = inr (λ t on. bare t (live_before n fs gs p q u v t r on))
 
@@ -72,7 +75,7 @@ now_settled n fs gs u v r =
     let after = live_after n fs gs u v u v t r h.0.1 in
     let is = h.0.2 in
     let drop = r.risen.drops t h.0.1.1 h.0.1.0 in
-    let some = r.belong.feasible t after.1 in
+    let some = r.risen.feasible t after.1 in
     inl (t, after, omega (arith, ints, is, drop, some)))
     (λ (h : ((t : Tri) → ¬ IsLiveOn n.points (prices_of n fs) u v t) × (r.m ≡ pos 0)). inr (λ t on. h.0 t (live_before n fs gs u v u v t r on)))
     r.least
@@ -81,7 +84,9 @@ now_settled n fs gs u v r =
 pub more_raised : (n : NetworkParts) (es fs gs : List Entry) (sides rest : List (ℕ × ℕ)) (u v : ℕ) → AreRaised n es fs sides ((u, v) ∷ rest) → IsOneRaised n fs gs u v → AreRaised n es gs sides rest
 more_raised n es fs gs sides rest u v h r =
     record {
-      belong = r.belong;
+      entries = r.entries;
+      feasible = r.risen.feasible;
+      bare = λ z. r.bare (h.bare z);
       live = r.live ∙ h.live;
       anchored = r.anchored ∙ h.anchored;
       prices = λ e inner. r.prices e inner ∙ h.prices e inner;

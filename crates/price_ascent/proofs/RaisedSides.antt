@@ -6,18 +6,18 @@ use Rattle.std.proofs.lemmas.List.{map-set}
 use Rattle.exact_predicates.specs.Hull.{IsHullPair}
 use Rattle.lmt_network.specs.Network.{NetworkParts, edge_at}
 use Rattle.lmt_network.specs.Numbers.{IsHullNumber, IsNumberOf}
-use Rattle.lmt_network.specs.Prices.{is_on_hull}
+use Rattle.lmt_network.specs.Prices.{IsFeasible, is_on_hull}
 use Rattle.lmt_network.proofs.Entries.{is_on_hull-comm, is_on_hull_decides}
 use Rattle.price_ascent.specs.declared.entry.Entry.{Entry}
-use Rattle.price_ascent.specs.Belonging.{BelongTo}
-use Rattle.price_ascent.specs.Entries.{entry, no_entry, table_of}
+use Rattle.price_ascent.specs.Belonging.{AreEntriesOf}
+use Rattle.price_ascent.specs.Entries.{entry, no_entry, prices_of, table_of}
 use Rattle.price_ascent.specs.Raised.{with_more}
 use Rattle.price_ascent.specs.Steps.{IsRaisedEntry, hull_raised, left_raised, right_raised}
-use Rattle.price_ascent.proofs.Changed.{IsChange, hull_of, live_same, new_entry, other_entry, same_field}
+use Rattle.price_ascent.proofs.Changed.{IsChange, bare_changed, hull_of, live_same, new_entry, other_entry, same_field}
 use Rattle.price_ascent.proofs.Kept.{get_or-mapped, same_table}
 use Rattle.price_ascent.proofs.Lowering.{inner_off}
-use Rattle.price_ascent.proofs.Raising.{left_rise, right_rise}
-use Rattle.price_ascent.proofs.RaisingHull.{hull_rise}
+use Rattle.price_ascent.proofs.Raising.{left_bare, left_entries, left_rise, right_bare, right_entries, right_rise}
+use Rattle.price_ascent.proofs.RaisingHull.{hull_entries, hull_rise, hull_zero}
 use Rattle.price_ascent.proofs.Rises.{risen}
 use Rattle.price_ascent.proofs.SlackBounds.{least_fits}
 use Rattle.price_ascent.proofs.Raised.{IsOneRaised}
@@ -46,23 +46,24 @@ field_list fs e x m f none is =
 pub field_kept : (fs : List Entry) (e : ℕ) (x : Entry) (f : Entry → ℤ) → f x ≡ f (entry fs e) → map f (set fs e x) ≡ map f fs
 field_kept fs e x f is = same_field f fs e x (f no_entry) (get_or-mapped f fs e no_entry ∙ sym is)
 
-anchored-kept : (fs gs : List Entry) (e : ℕ) (x : Entry) → gs ≡ set fs e x → x.anchored ≡ (entry fs e).anchored → map (λ p. p.anchored) gs ≡ map (λ p. p.anchored) fs
+pub anchored-kept : (fs gs : List Entry) (e : ℕ) (x : Entry) → gs ≡ set fs e x → x.anchored ≡ (entry fs e).anchored → map (λ p. p.anchored) gs ≡ map (λ p. p.anchored) fs
 anchored-kept fs gs e x gs_is is =
     ap (map (λ p. p.anchored)) gs_is ∙ same_field (λ p. p.anchored) fs e x false (get_or-mapped (λ (p : Entry). p.anchored) fs e no_entry ∙ sym is)
 
 -- a raised left side
-pub left_raised-one : (n : NetworkParts) (fs gs : List Entry) (e : ℕ) → BelongTo n fs → BelongTo n gs → e < length n.edges → (entry fs e).anchored ≡ true
+pub left_raised-one : (n : NetworkParts) (fs gs : List Entry) (e : ℕ) → AreEntriesOf n fs → IsFeasible n.points n.hull (prices_of n fs) → e < length n.edges → (entry fs e).anchored ≡ true
     → IsRaisedEntry n fs gs e (edge_at n e).a (edge_at n e).b left_raised → IsOneRaised n fs gs (edge_at n e).a (edge_at n e).b
-left_raised-one n fs gs e b after e_in anchored r =
+left_raised-one n fs gs e b feasible e_in anchored r =
     let p = entry fs e in
     let x = left_raised p r.m in
     let inner = (b.each e e_in).inner anchored in
-    let c : IsChange n fs gs e x = record { belong = b; e_in = e_in; is = r.entry_is; live = refl } in
-    let rise = left_rise n fs gs e r.m c inner.0 inner.1 r.least in
-    let some = (least_fits n fs (edge_at n e).a (edge_at n e).b r.m b r.least).0 in
+    let c : IsChange n fs gs e x = record { entries = b; e_in = e_in; is = r.entry_is; live = refl } in
+    let rise = left_rise n fs gs e r.m c feasible inner.0 inner.1 r.least in
+    let some = (least_fits n fs (edge_at n e).a (edge_at n e).b r.m b feasible r.least).0 in
     record {
       before = b;
-      belong = after;
+      entries = left_entries n fs gs e r.m c feasible inner.0 anchored inner.1 r.least;
+      bare = λ z. bare_changed n fs gs e x c (left_bare n fs e r.m r.least (z e e_in)) z;
       live = live_same n fs gs e x c;
       anchored = anchored-kept fs gs e x r.entry_is refl;
       prices = λ k out. field_same n fs gs e x (λ q. q.value) k c refl;
@@ -84,19 +85,20 @@ left_raised-one n fs gs e b after e_in anchored r =
     }
 
 -- a raised right side
-pub right_raised-one : (n : NetworkParts) (fs gs : List Entry) (e : ℕ) → BelongTo n fs → BelongTo n gs → e < length n.edges → (entry fs e).anchored ≡ true
+pub right_raised-one : (n : NetworkParts) (fs gs : List Entry) (e : ℕ) → AreEntriesOf n fs → IsFeasible n.points n.hull (prices_of n fs) → e < length n.edges → (entry fs e).anchored ≡ true
     → IsRaisedEntry n fs gs e (edge_at n e).b (edge_at n e).a right_raised → IsOneRaised n fs gs (edge_at n e).b (edge_at n e).a
-right_raised-one n fs gs e b after e_in anchored r =
+right_raised-one n fs gs e b feasible e_in anchored r =
     let p = entry fs e in
     let x = right_raised p r.m in
     let inner = (b.each e e_in).inner anchored in
-    let c : IsChange n fs gs e x = record { belong = b; e_in = e_in; is = r.entry_is; live = refl } in
-    let rise = right_rise n fs gs e r.m c inner.0 inner.1 r.least in
-    let some = (least_fits n fs (edge_at n e).b (edge_at n e).a r.m b r.least).0 in
+    let c : IsChange n fs gs e x = record { entries = b; e_in = e_in; is = r.entry_is; live = refl } in
+    let rise = right_rise n fs gs e r.m c feasible inner.0 inner.1 r.least in
+    let some = (least_fits n fs (edge_at n e).b (edge_at n e).a r.m b feasible r.least).0 in
     let up = (edge_at n e).ascending in
     record {
       before = b;
-      belong = after;
+      entries = right_entries n fs gs e r.m c feasible inner.0 anchored inner.1 r.least;
+      bare = λ z. bare_changed n fs gs e x c (right_bare n fs e r.m r.least (z e e_in)) z;
       live = live_same n fs gs e x c;
       anchored = anchored-kept fs gs e x r.entry_is refl;
       prices = λ k out. field_same n fs gs e x (λ q. q.value) k c refl;
@@ -119,19 +121,20 @@ right_raised-one n fs gs e b after e_in anchored r =
     }
 
 -- a raised pair of the hull
-pub hull_raised-one : (n : NetworkParts) (fs gs : List Entry) (e u v : ℕ) → BelongTo n fs → BelongTo n gs → IsNumberOf n u v e → IsHullPair n.hull u v
+pub hull_raised-one : (n : NetworkParts) (fs gs : List Entry) (e u v : ℕ) → AreEntriesOf n fs → IsFeasible n.points n.hull (prices_of n fs) → IsNumberOf n u v e → IsHullPair n.hull u v
     → IsRaisedEntry n fs gs e u v hull_raised → IsOneRaised n fs gs u v
-hull_raised-one n fs gs e u v b after is pair r =
+hull_raised-one n fs gs e u v b feasible is pair r =
     let p = entry fs e in
     let x = hull_raised p r.m in
     let hull = hull_of n e u v is pair in
     let live = (b.each e is.0).hull_live hull in
-    let c : IsChange n fs gs e x = record { belong = b; e_in = is.0; is = r.entry_is; live = refl } in
-    let rise = hull_rise n fs gs e u v r.m c live is pair r.least in
-    let some = (least_fits n fs u v r.m b r.least).0 in
+    let c : IsChange n fs gs e x = record { entries = b; e_in = is.0; is = r.entry_is; live = refl } in
+    let rise = hull_rise n fs gs e u v r.m c feasible live is pair r.least in
+    let some = (least_fits n fs u v r.m b feasible r.least).0 in
     record {
       before = b;
-      belong = after;
+      entries = hull_entries n fs gs e u v r.m c feasible live is pair r.least;
+      bare = λ z. bare_changed n fs gs e x c (hull_zero n fs e u v r.m b is pair r.least (z e is.0)) z;
       live = live_same n fs gs e x c;
       anchored = anchored-kept fs gs e x r.entry_is refl;
       prices = λ k out. ap (λ (q : Entry). q.value) (other_entry n fs gs e x k c (λ same. out (subst (IsHullNumber n) (sym same) hull)));

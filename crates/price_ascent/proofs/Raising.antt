@@ -5,22 +5,22 @@ use Rattle.std.proofs.lemmas.Int.{ints}
 use Rattle.exact_predicates.proofs.Equalities.{Joins-comm, Joins-ends}
 use Rattle.lmt_network.specs.Network.{NetworkParts, edge_at}
 use Rattle.lmt_network.specs.Numbers.{IsHullNumber}
-use Rattle.lmt_network.specs.Prices.{share}
+use Rattle.lmt_network.specs.Prices.{IsFeasible, share}
 use Rattle.price_ascent.specs.declared.entry.Entry.{Entry}
 use Rattle.price_ascent.specs.Ascent.{IsLeastSlack}
-use Rattle.price_ascent.specs.Belonging.{BelongTo}
+use Rattle.price_ascent.specs.Belonging.{AreEntriesOf, IsZeroWhereBare}
 use Rattle.price_ascent.specs.Entries.{entry, prices_of}
 use Rattle.price_ascent.specs.Steps.{left_raised, right_raised}
-use Rattle.price_ascent.proofs.Changed.{IsChange, bare_back, belong_changed, new_entry, changed_length}
+use Rattle.price_ascent.proofs.Changed.{IsChange, changed_length, entries_changed, new_entry}
 use Rattle.price_ascent.proofs.Lowering.{inner_off}
-use Rattle.price_ascent.proofs.Rises.{IsRise, anchor_fits, anchor_fits_up, bare_least, risen}
+use Rattle.price_ascent.proofs.Rises.{IsRise, bare_least, raised-fits}
 use Rattle.price_ascent.proofs.Shares.{HasShares, has_shares, own_shares}
 
 -- the shares of the new entry
 pub new_shares : (n : NetworkParts) (es fs : List Entry) (e : ℕ) (x : Entry) → IsChange n es fs e x → (entry es e).live ≡ true
     → HasShares n fs e (share n.points n.hull (prices_of n fs) (edge_at n e).a (edge_at n e).b) (share n.points n.hull (prices_of n fs) (edge_at n e).b (edge_at n e).a)
 new_shares n es fs e x c live =
-    has_shares n fs e c.belong.network (changed_length n es fs e x c) c.e_in (ap (λ (p : Entry). p.live) (new_entry n es fs e x c) ∙ (c.live ∙ live))
+    has_shares n fs e c.entries.network (changed_length n es fs e x c) c.e_in (ap (λ (p : Entry). p.live) (new_entry n es fs e x c) ∙ (c.live ∙ live))
 
 -- the shares of both sides after a raise
 abbrev pub AreNewShares : NetworkParts → List Entry → ℕ → Entry → Type 0
@@ -32,7 +32,7 @@ left_shares : (n : NetworkParts) (es fs : List Entry) (e : ℕ) (m : ℤ) → Is
     → AreNewShares n fs e (left_raised (entry es e) m)
 left_shares n es fs e m c live inner =
     let off = inner_off n e inner in
-    let old = own_shares n es e c.belong c.e_in live in
+    let old = own_shares n es e c.entries c.e_in live in
     let new = new_shares n es fs e (left_raised (entry es e) m) c live in
     let is = new_entry n es fs e (left_raised (entry es e) m) c in
     let value = ap (λ (p : Entry). p.value) is in
@@ -48,7 +48,7 @@ right_shares : (n : NetworkParts) (es fs : List Entry) (e : ℕ) (m : ℤ) → I
     → AreNewShares n fs e (right_raised (entry es e) m)
 right_shares n es fs e m c live inner =
     let off = inner_off n e inner in
-    let old = own_shares n es e c.belong c.e_in live in
+    let old = own_shares n es e c.entries c.e_in live in
     let new = new_shares n es fs e (right_raised (entry es e) m) c live in
     let is = new_entry n es fs e (right_raised (entry es e) m) c in
     let value = ap (λ (p : Entry). p.value) is in
@@ -61,17 +61,18 @@ right_shares n es fs e m c live inner =
     (omega (arith, ints, old_up, new_up, value, left), omega (arith, ints, old_down, new_down, value, right))
 
 -- the left side of an inner edge
-pub left_rise : (n : NetworkParts) (es fs : List Entry) (e : ℕ) (m : ℤ) → IsChange n es fs e (left_raised (entry es e) m) → (entry es e).live ≡ true → ¬ IsHullNumber n e
+pub left_rise : (n : NetworkParts) (es fs : List Entry) (e : ℕ) (m : ℤ) → IsChange n es fs e (left_raised (entry es e) m) → IsFeasible n.points n.hull (prices_of n es) → (entry es e).live ≡ true → ¬ IsHullNumber n e
     → IsLeastSlack n.points n.hull (prices_of n es) (edge_at n e).a (edge_at n e).b m
     → IsRise n es fs e (edge_at n e).a (edge_at n e).b m (left_raised (entry es e) m)
-left_rise n es fs e m c live inner least =
-    let old_up = (c.belong.each e c.e_in).up live in
-    let old_down = (c.belong.each e c.e_in).down live in
+left_rise n es fs e m c feasible live inner least =
+    let old_up = (c.entries.each e c.e_in).up live in
+    let old_down = (c.entries.each e c.e_in).down live in
     let new = left_shares n es fs e m c live inner in
     let new_up = new.0 in
     let new_down = new.1 in
     record {
       change = c;
+      feasible = feasible;
       number = (c.e_in, Joins-ends (edge_at n e));
       live = live;
       least = least;
@@ -79,22 +80,22 @@ left_rise n es fs e m c live inner least =
       back = λ t over side. sym new_down ∙ old_down;
     }
 
-pub left_belong : (n : NetworkParts) (es fs : List Entry) (e : ℕ) (m : ℤ) → IsChange n es fs e (left_raised (entry es e) m) → (entry es e).live ≡ true → (entry es e).anchored ≡ true → ¬ IsHullNumber n e
-    → IsLeastSlack n.points n.hull (prices_of n es) (edge_at n e).a (edge_at n e).b m → BelongTo n fs
-left_belong n es fs e m c live anchored inner least =
-    let x = left_raised (entry es e) m in
-    let h = c.belong.each e c.e_in in
-    let a = (edge_at n e).a in
-    let b = (edge_at n e).b in
-    let old = (own_shares n es e c.belong c.e_in live).off_up (inner_off n e inner) in
+pub left_entries : (n : NetworkParts) (es fs : List Entry) (e : ℕ) (m : ℤ) → IsChange n es fs e (left_raised (entry es e) m) → IsFeasible n.points n.hull (prices_of n es) → (entry es e).live ≡ true → (entry es e).anchored ≡ true → ¬ IsHullNumber n e
+    → IsLeastSlack n.points n.hull (prices_of n es) (edge_at n e).a (edge_at n e).b m → AreEntriesOf n fs
+left_entries n es fs e m c feasible live anchored inner least =
+    let h = c.entries.each e c.e_in in
+    let old = (own_shares n es e c.entries c.e_in live).off_up (inner_off n e inner) in
     let up = h.up live in
     let low = (h.price inner).0 in
-    let light = c.belong.light e c.e_in live in
-    belong_changed n es fs e x c
+    let light = c.entries.light e c.e_in live in
+    let zero = h.left.0 in
+    let fits = raised-fits n es (edge_at n e).a (edge_at n e).b m (entry es e).left c.entries feasible least h.left.1 (omega (arith, ints, old, up, low, light)) in
+    let more = fits.0 in
+    entries_changed n es fs e (left_raised (entry es e) m) c
     (record {
       price = h.price;
       anchor = h.anchor;
-      left = anchor_fits_up n es a b m (entry es e).left c.belong least h.left (edge_at n e).ascending (omega (arith, ints, old, up, low, light));
+      left = (omega (arith, ints, zero, more), fits.1);
       right = h.right;
       up = λ alive. (left_shares n es fs e m c live inner).0;
       down = λ alive. (left_shares n es fs e m c live inner).1;
@@ -102,28 +103,33 @@ left_belong n es fs e m c live anchored inner least =
       hull_live = h.hull_live;
       inner = h.inner;
       elsewhere = λ not. absurd (false≢true (sym not ∙ anchored));
-      bare_hull = λ u v is pair bare. h.bare_hull u v is pair (bare_back n es fs e x u v c bare);
-      bare_left = λ bare.
-          let none = bare_back n es fs e x a b c bare in
-          let zero = h.bare_left none in
-          let least_zero = bare_least n es a b m least none in
-          omega (arith, ints, zero, least_zero);
-      bare_right = λ bare. h.bare_right (bare_back n es fs e x b a c bare);
     })
-    (risen n es fs e a b m x (left_rise n es fs e m c live inner least)).feasible
+
+pub left_bare : (n : NetworkParts) (es : List Entry) (e : ℕ) (m : ℤ) → IsLeastSlack n.points n.hull (prices_of n es) (edge_at n e).a (edge_at n e).b m
+    → IsZeroWhereBare n (prices_of n es) e (entry es e) → IsZeroWhereBare n (prices_of n es) e (left_raised (entry es e) m)
+left_bare n es e m least z =
+    record {
+      hull = z.hull;
+      left = λ none.
+          let zero = z.left none in
+          let least_zero = bare_least n es (edge_at n e).a (edge_at n e).b m least none in
+          omega (arith, ints, zero, least_zero);
+      right = z.right;
+    }
 
 -- the right side of an inner edge
-pub right_rise : (n : NetworkParts) (es fs : List Entry) (e : ℕ) (m : ℤ) → IsChange n es fs e (right_raised (entry es e) m) → (entry es e).live ≡ true → ¬ IsHullNumber n e
+pub right_rise : (n : NetworkParts) (es fs : List Entry) (e : ℕ) (m : ℤ) → IsChange n es fs e (right_raised (entry es e) m) → IsFeasible n.points n.hull (prices_of n es) → (entry es e).live ≡ true → ¬ IsHullNumber n e
     → IsLeastSlack n.points n.hull (prices_of n es) (edge_at n e).b (edge_at n e).a m
     → IsRise n es fs e (edge_at n e).b (edge_at n e).a m (right_raised (entry es e) m)
-right_rise n es fs e m c live inner least =
-    let old_up = (c.belong.each e c.e_in).up live in
-    let old_down = (c.belong.each e c.e_in).down live in
+right_rise n es fs e m c feasible live inner least =
+    let old_up = (c.entries.each e c.e_in).up live in
+    let old_down = (c.entries.each e c.e_in).down live in
     let new = right_shares n es fs e m c live inner in
     let new_up = new.0 in
     let new_down = new.1 in
     record {
       change = c;
+      feasible = feasible;
       number = (c.e_in, Joins-comm (edge_at n e) (edge_at n e).a (edge_at n e).b (Joins-ends (edge_at n e)));
       live = live;
       least = least;
@@ -131,34 +137,38 @@ right_rise n es fs e m c live inner least =
       back = λ t over side. sym new_up ∙ old_up;
     }
 
-pub right_belong : (n : NetworkParts) (es fs : List Entry) (e : ℕ) (m : ℤ) → IsChange n es fs e (right_raised (entry es e) m) → (entry es e).live ≡ true → (entry es e).anchored ≡ true → ¬ IsHullNumber n e
-    → IsLeastSlack n.points n.hull (prices_of n es) (edge_at n e).b (edge_at n e).a m → BelongTo n fs
-right_belong n es fs e m c live anchored inner least =
-    let x = right_raised (entry es e) m in
-    let h = c.belong.each e c.e_in in
-    let a = (edge_at n e).a in
-    let b = (edge_at n e).b in
-    let old = (own_shares n es e c.belong c.e_in live).off_down (inner_off n e inner) in
+pub right_entries : (n : NetworkParts) (es fs : List Entry) (e : ℕ) (m : ℤ) → IsChange n es fs e (right_raised (entry es e) m) → IsFeasible n.points n.hull (prices_of n es) → (entry es e).live ≡ true → (entry es e).anchored ≡ true → ¬ IsHullNumber n e
+    → IsLeastSlack n.points n.hull (prices_of n es) (edge_at n e).b (edge_at n e).a m → AreEntriesOf n fs
+right_entries n es fs e m c feasible live anchored inner least =
+    let h = c.entries.each e c.e_in in
+    let old = (own_shares n es e c.entries c.e_in live).off_down (inner_off n e inner) in
     let down = h.down live in
     let high = (h.price inner).1 in
-    belong_changed n es fs e x c
+    let zero = h.right.0 in
+    let fits = raised-fits n es (edge_at n e).b (edge_at n e).a m (entry es e).right c.entries feasible least h.right.1 (omega (arith, ints, old, down, high)) in
+    let more = fits.0 in
+    entries_changed n es fs e (right_raised (entry es e) m) c
     (record {
       price = h.price;
       anchor = h.anchor;
       left = h.left;
-      right = anchor_fits n es b a m (entry es e).right c.belong least h.right (omega (arith, ints, old, down, high));
+      right = (omega (arith, ints, zero, more), fits.1);
       up = λ alive. (right_shares n es fs e m c live inner).0;
       down = λ alive. (right_shares n es fs e m c live inner).1;
       killed = h.killed;
       hull_live = h.hull_live;
       inner = h.inner;
       elsewhere = λ not. absurd (false≢true (sym not ∙ anchored));
-      bare_hull = λ u v is pair bare. h.bare_hull u v is pair (bare_back n es fs e x u v c bare);
-      bare_left = λ bare. h.bare_left (bare_back n es fs e x a b c bare);
-      bare_right = λ bare.
-          let none = bare_back n es fs e x b a c bare in
-          let zero = h.bare_right none in
-          let least_zero = bare_least n es b a m least none in
-          omega (arith, ints, zero, least_zero);
     })
-    (risen n es fs e b a m x (right_rise n es fs e m c live inner least)).feasible
+
+pub right_bare : (n : NetworkParts) (es : List Entry) (e : ℕ) (m : ℤ) → IsLeastSlack n.points n.hull (prices_of n es) (edge_at n e).b (edge_at n e).a m
+    → IsZeroWhereBare n (prices_of n es) e (entry es e) → IsZeroWhereBare n (prices_of n es) e (right_raised (entry es e) m)
+right_bare n es e m least z =
+    record {
+      hull = z.hull;
+      left = z.left;
+      right = λ none.
+          let zero = z.right none in
+          let least_zero = bare_least n es (edge_at n e).b (edge_at n e).a m least none in
+          omega (arith, ints, zero, least_zero);
+    }

@@ -5,16 +5,16 @@ use Rattle.std.proofs.lemmas.Int.{ints}
 use Rattle.exact_predicates.specs.Hull.{IsHullPair}
 use Rattle.lmt_network.specs.Network.{NetworkParts, edge_at}
 use Rattle.lmt_network.specs.Numbers.{HasSide, IsHullNumber, IsNumberOf}
-use Rattle.lmt_network.specs.Prices.{share}
+use Rattle.lmt_network.specs.Prices.{IsFeasible, share}
 use Rattle.lmt_network.proofs.Entries.{is_on_hull_decides}
 use Rattle.price_ascent.specs.declared.entry.Entry.{Entry}
 use Rattle.price_ascent.specs.Ascent.{IsLeastSlack}
-use Rattle.price_ascent.specs.Belonging.{BelongTo, IsBareSide}
+use Rattle.price_ascent.specs.Belonging.{AreEntriesOf, IsBareSide, IsZeroWhereBare}
 use Rattle.price_ascent.specs.Entries.{entry, prices_of}
 use Rattle.price_ascent.specs.Steps.{hull_raised}
-use Rattle.price_ascent.proofs.Changed.{IsChange, bare_back, belong_changed, hull_of, new_entry, which_side}
+use Rattle.price_ascent.proofs.Changed.{IsChange, entries_changed, hull_of, new_entry, which_side}
 use Rattle.price_ascent.proofs.LiveSides.{none_outside}
-use Rattle.price_ascent.proofs.Rises.{IsRise, anchor_fits, bare_least, risen, same_or_turned}
+use Rattle.price_ascent.proofs.Rises.{IsRise, bare_least, raised-fits, same_or_turned}
 use Rattle.price_ascent.proofs.Shares.{on_hull, own_shares}
 use Rattle.price_ascent.proofs.Raising.{AreNewShares, new_shares}
 
@@ -25,7 +25,7 @@ hull_shares : (n : NetworkParts) (es fs : List Entry) (e : ℕ) (m : ℤ) → Is
     → AreNewShares n fs e (hull_raised (entry es e) m)
 hull_shares n es fs e m c live hull =
     let on = hull_on n e hull in
-    let old = own_shares n es e c.belong c.e_in live in
+    let old = own_shares n es e c.entries c.e_in live in
     let new = new_shares n es fs e (hull_raised (entry es e) m) c live in
     let value = ap (λ (p : Entry). p.value) (new_entry n es fs e (hull_raised (entry es e) m) c) in
     let old_up = old.on_up on in
@@ -35,11 +35,11 @@ hull_shares n es fs e m c live hull =
     (omega (arith, ints, old_up, new_up, value), omega (arith, ints, old_down, new_down, value))
 
 -- a pair of the hull
-pub hull_rise : (n : NetworkParts) (es fs : List Entry) (e u v : ℕ) (m : ℤ) → IsChange n es fs e (hull_raised (entry es e) m) → (entry es e).live ≡ true → IsNumberOf n u v e → IsHullPair n.hull u v
+pub hull_rise : (n : NetworkParts) (es fs : List Entry) (e u v : ℕ) (m : ℤ) → IsChange n es fs e (hull_raised (entry es e) m) → IsFeasible n.points n.hull (prices_of n es) → (entry es e).live ≡ true → IsNumberOf n u v e → IsHullPair n.hull u v
     → IsLeastSlack n.points n.hull (prices_of n es) u v m → IsRise n es fs e u v m (hull_raised (entry es e) m)
-hull_rise n es fs e u v m c live is pair least =
-    let old_up = (c.belong.each e c.e_in).up live in
-    let old_down = (c.belong.each e c.e_in).down live in
+hull_rise n es fs e u v m c feasible live is pair least =
+    let old_up = (c.entries.each e c.e_in).up live in
+    let old_down = (c.entries.each e c.e_in).down live in
     let new = hull_shares n es fs e m c live (hull_of n e u v is pair) in
     let new_up = new.0 in
     let new_down = new.1 in
@@ -51,6 +51,7 @@ hull_rise n es fs e u v m c live is pair least =
     let down : g b a ≡ f b a -ℤ m = omega (arith, ints, old_down, new_down) in
     record {
       change = c;
+      feasible = feasible;
       number = is;
       live = live;
       least = least;
@@ -58,11 +59,11 @@ hull_rise n es fs e u v m c live is pair least =
           (λ (s : (u ≡ a) × (v ≡ b)). subst (λ (x : ℕ). g x v ≡ f x v -ℤ m) (sym s.0) (subst (λ (y : ℕ). g a y ≡ f a y -ℤ m) (sym s.1) up))
           (λ (s : (u ≡ b) × (v ≡ a)). subst (λ (x : ℕ). g x v ≡ f x v -ℤ m) (sym s.0) (subst (λ (y : ℕ). g b y ≡ f b y -ℤ m) (sym s.1) down))
           (which_side n e u v is);
-      back = λ t over side. absurd (none_outside n t u v c.belong.network pair over.empty side);
+      back = λ t over side. absurd (none_outside n t u v c.entries.network pair over.empty side);
     }
 
 -- a bare pair of the edge leaves no slack to take
-hull_bare : (n : NetworkParts) (es : List Entry) (e u v p q : ℕ) (m : ℤ) → BelongTo n es → IsNumberOf n u v e → IsHullPair n.hull u v → IsNumberOf n p q e → IsHullPair n.hull p q
+hull_bare : (n : NetworkParts) (es : List Entry) (e u v p q : ℕ) (m : ℤ) → AreEntriesOf n es → IsNumberOf n u v e → IsHullPair n.hull u v → IsNumberOf n p q e → IsHullPair n.hull p q
     → IsLeastSlack n.points n.hull (prices_of n es) u v m → IsBareSide n.points (prices_of n es) p q → m ≡ pos 0
 hull_bare n es e u v p q m b is pair other other_pair least bare =
     bare_least n es u v m least
@@ -72,33 +73,45 @@ hull_bare n es e u v p q m b is pair other other_pair least bare =
     none_outside n t p q b.network other_pair on.1.empty (subst (λ (x : ℕ). HasSide t x p) (sym s.1) (subst (λ (y : ℕ). HasSide t u y) (sym s.0) on.0)))
     (same_or_turned n e u v p q is other))
 
-pub hull_belong : (n : NetworkParts) (es fs : List Entry) (e u v : ℕ) (m : ℤ) → IsChange n es fs e (hull_raised (entry es e) m) → (entry es e).live ≡ true → IsNumberOf n u v e → IsHullPair n.hull u v
-    → IsLeastSlack n.points n.hull (prices_of n es) u v m → BelongTo n fs
-hull_belong n es fs e u v m c live is pair least =
-    let x = hull_raised (entry es e) m in
-    let h = c.belong.each e c.e_in in
+-- what a side of the hull gives and its anchor together
+pub hull_gross : (n : NetworkParts) (es : List Entry) (e u v : ℕ) → AreEntriesOf n es → IsNumberOf n u v e → IsHullPair n.hull u v
+    → (share n.points n.hull (prices_of n es) u v +ℤ (entry es e).value) ≤ℤ pos (3 * 10 ^ 15)
+hull_gross n es e u v entries is pair =
+    let h = entries.each e is.0 in
     let hull = hull_of n e u v is pair in
+    let live = h.hull_live hull in
     let a = (edge_at n e).a in
     let b = (edge_at n e).b in
     let f = share n.points n.hull (prices_of n es) in
-    let light = c.belong.light e c.e_in live in
-    let own = own_shares n es e c.belong c.e_in live in
+    let y = (entry es e).value in
+    let light = entries.light e is.0 live in
+    let own = own_shares n es e entries is.0 live in
     let old_up = own.on_up (hull_on n e hull) in
     let old_down = own.on_down (hull_on n e hull) in
     let up = h.up live in
     let down = h.down live in
-    let y = (entry es e).value in
     let gross_up : (f a b +ℤ y) ≤ℤ pos (3 * 10 ^ 15) = omega (arith, ints, old_up, up, light) in
     let gross_down : (f b a +ℤ y) ≤ℤ pos (3 * 10 ^ 15) = omega (arith, ints, old_down, down, light) in
-    let gross : (f u v +ℤ y) ≤ℤ pos (3 * 10 ^ 15)
-    = ⊎_elim
+    ⊎_elim
     (λ (s : (u ≡ a) × (v ≡ b)). subst (λ (z : ℕ). (f z v +ℤ y) ≤ℤ pos (3 * 10 ^ 15)) (sym s.0) (subst (λ (z : ℕ). (f a z +ℤ y) ≤ℤ pos (3 * 10 ^ 15)) (sym s.1) gross_up))
     (λ (s : (u ≡ b) × (v ≡ a)). subst (λ (z : ℕ). (f z v +ℤ y) ≤ℤ pos (3 * 10 ^ 15)) (sym s.0) (subst (λ (z : ℕ). (f b z +ℤ y) ≤ℤ pos (3 * 10 ^ 15)) (sym s.1) gross_down))
-    (which_side n e u v is) in
-    belong_changed n es fs e x c
+    (which_side n e u v is)
+
+pub hull_entries : (n : NetworkParts) (es fs : List Entry) (e u v : ℕ) (m : ℤ) → IsChange n es fs e (hull_raised (entry es e) m) → IsFeasible n.points n.hull (prices_of n es) → (entry es e).live ≡ true → IsNumberOf n u v e → IsHullPair n.hull u v
+    → IsLeastSlack n.points n.hull (prices_of n es) u v m → AreEntriesOf n fs
+hull_entries n es fs e u v m c feasible live is pair least =
+    let h = c.entries.each e c.e_in in
+    let hull = hull_of n e u v is pair in
+    let whole = hull_gross n es e u v c.entries is pair in
+    let y = (entry es e).value in
+    let gross : (share n.points n.hull (prices_of n es) u v +ℤ y) ≤ℤ pos (403 * 10 ^ 15) = omega (arith, ints, whole) in
+    let low = (h.anchor hull).0 in
+    let fits = raised-fits n es u v m y c.entries feasible least (h.anchor hull).1 gross in
+    let more = fits.0 in
+    entries_changed n es fs e (hull_raised (entry es e) m) c
     (record {
       price = λ inner. absurd (inner hull);
-      anchor = λ on. anchor_fits n es u v m y c.belong least (h.anchor hull) gross;
+      anchor = λ on. (omega (arith, ints, low, more), fits.1);
       left = h.left;
       right = h.right;
       up = λ alive. (hull_shares n es fs e m c live hull).0;
@@ -107,12 +120,16 @@ hull_belong n es fs e u v m c live is pair least =
       hull_live = h.hull_live;
       inner = h.inner;
       elsewhere = h.elsewhere;
-      bare_hull = λ p q other other_pair bare.
-          let none = bare_back n es fs e x p q c bare in
-          let zero = h.bare_hull p q other other_pair none in
-          let least_zero = hull_bare n es e u v p q m c.belong is pair other other_pair least none in
-          omega (arith, ints, zero, least_zero);
-      bare_left = λ bare. h.bare_left (bare_back n es fs e x a b c bare);
-      bare_right = λ bare. h.bare_right (bare_back n es fs e x b a c bare);
     })
-    (risen n es fs e u v m x (hull_rise n es fs e u v m c live is pair least)).feasible
+
+pub hull_zero : (n : NetworkParts) (es : List Entry) (e u v : ℕ) (m : ℤ) → AreEntriesOf n es → IsNumberOf n u v e → IsHullPair n.hull u v → IsLeastSlack n.points n.hull (prices_of n es) u v m
+    → IsZeroWhereBare n (prices_of n es) e (entry es e) → IsZeroWhereBare n (prices_of n es) e (hull_raised (entry es e) m)
+hull_zero n es e u v m b is pair least z =
+    record {
+      hull = λ p q other other_pair none.
+          let zero = z.hull p q other other_pair none in
+          let least_zero = hull_bare n es e u v p q m b is pair other other_pair least none in
+          omega (arith, ints, zero, least_zero);
+      left = z.left;
+      right = z.right;
+    }

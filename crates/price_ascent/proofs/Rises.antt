@@ -1,5 +1,5 @@
 -- An anchor that is raised by the least slack of its side.
-use Rattle.std.proofs.Common.{◌≡◌, ◌≢◌, ◌⊎◌, ℕ, ◌*◌, ◌^◌, ◌<◌, true, List, ℤ, pos, ◌+ℤ◌, ◌-ℤ◌, ◌≤ℤ◌, ◌<ℤ◌, sym, ◌∙◌, subst, arith, ⊎_elim, inl, inr}
+use Rattle.std.proofs.Common.{◌≡◌, ◌≢◌, ◌⊎◌, ℕ, ◌*◌, ◌^◌, true, List, ℤ, pos, ◌+ℤ◌, ◌-ℤ◌, ◌≤ℤ◌, sym, ◌∙◌, subst, arith, ⊎_elim, inl, inr}
 use Rattle.std.proofs.lemmas.Bool.{cases_eq}
 use Rattle.std.proofs.lemmas.Int.{ints}
 use Rattle.exact_predicates.specs.declared.tri.Tri.{Tri}
@@ -8,16 +8,17 @@ use Rattle.lmt_network.specs.Numbers.{HasSide, IsNumberOf}
 use Rattle.lmt_network.specs.Prices.{IsFeasible, IsLiveTriangle, share, slack}
 use Rattle.price_ascent.specs.declared.entry.Entry.{Entry}
 use Rattle.price_ascent.specs.Ascent.{IsLeastSlack, IsLiveOn}
-use Rattle.price_ascent.specs.Belonging.{BelongTo, IsAnchor, IsBareSide}
+use Rattle.price_ascent.specs.Belonging.{AreEntriesOf, IsBareSide, most_raised}
 use Rattle.price_ascent.specs.Entries.{entry, prices_of}
 use Rattle.price_ascent.proofs.Changed.{IsChange, live_back, share-other, which_side}
 use Rattle.price_ascent.proofs.Changes.{AreUpTo, side_or_not, with_side, without_side}
 use Rattle.price_ascent.proofs.LiveSides.{side_number}
-use Rattle.price_ascent.proofs.SlackBounds.{least_fits, slack-beside, slack-beside_up}
+use Rattle.price_ascent.proofs.SlackBounds.{least_fits, slack-beside}
 
 -- What a raise of the anchor of the side u to v of the edge e changes: the share of this side alone.
 pub record IsRise (n : NetworkParts) (es fs : List Entry) (e u v : ℕ) (m : ℤ) (x : Entry) : Type 0 where
   pub change : IsChange n es fs e x
+  pub feasible : IsFeasible n.points n.hull (prices_of n es)
   pub number : IsNumberOf n u v e
   pub live : (entry es e).live ≡ true
   pub least : IsLeastSlack n.points n.hull (prices_of n es) u v m
@@ -43,7 +44,7 @@ same_or_turned n e u v p q is other =
 risen_sides : (n : NetworkParts) (es fs : List Entry) (e u v : ℕ) (m : ℤ) (x : Entry) (t : Tri) → IsRise n es fs e u v m x → IsLiveTriangle n.points (prices_of n es) t
     → (p q : ℕ) → HasSide t p q → ((p ≡ u) × (q ≡ v)) ⊎ (share n.points n.hull (prices_of n fs) p q ≡ share n.points n.hull (prices_of n es) p q)
 risen_sides n es fs e u v m x t r over p q side =
-    let k = side_number n es t p q r.change.belong.one_each over side in
+    let k = side_number n es t p q r.change.entries.one_each over side in
     let f = share n.points n.hull (prices_of n es) in
     let g = share n.points n.hull (prices_of n fs) in
     ⊎_elim
@@ -81,7 +82,7 @@ risen n es fs e u v m x r =
       feasible = λ t over.
           let was = live_back n es fs e x t r.change over in
           let each : AreUpTo f g u v t = λ p q s. ⊎_elim (λ i. inl i) (λ (is : g p q ≡ f p q). inr (omega (arith, ints, is))) (risen_sides n es fs e u v m x t r was p q s) in
-          let old = r.change.belong.feasible t was in
+          let old = r.feasible t was in
           ⊎_elim
           (λ (side : HasSide t u v).
           let less = r.less in
@@ -99,7 +100,7 @@ risen n es fs e u v m x r =
           ⊎_elim
           (λ (side : HasSide t u v).
           let drop = risen_drops n es fs e u v m x t r over side in
-          let some = (least_fits n es u v m r.change.belong r.least).0 in
+          let some = (least_fits n es u v m r.change.entries r.feasible r.least).0 in
           omega (arith, ints, drop, some))
           (λ (none : ¬ HasSide t u v). without_side g f u v t
           (λ p q s. ⊎_elim (λ i. inl i) (λ (is : g p q ≡ f p q). inr (omega (arith, ints, is))) (risen_sides n es fs e u v m x t r over p q s))
@@ -117,28 +118,18 @@ bare_least n es u v m least bare =
     (λ (h : ((t : Tri) → ¬ IsLiveOn n.points (prices_of n es) u v t) × (m ≡ pos 0)). h.1)
     least
 
--- a raised anchor is within its range
-raised-fits : (n : NetworkParts) (es : List Entry) (u v : ℕ) (m y : ℤ) → BelongTo n es → IsLeastSlack n.points n.hull (prices_of n es) u v m → IsAnchor y
-    → ((t : Tri) → IsLiveOn n.points (prices_of n es) u v t → (y +ℤ slack n.points n.hull (prices_of n es) t) <ℤ pos (10 ^ 18)) → IsAnchor (y +ℤ m)
-raised-fits n es u v m y b least anchor below =
-    let some = (least_fits n es u v m b least).0 in
-    let low = anchor.0 in
-    let high = anchor.1 in
+-- a raised anchor is no less than it was, and within its range
+pub raised-fits : (n : NetworkParts) (es : List Entry) (u v : ℕ) (m y : ℤ) → AreEntriesOf n es → IsFeasible n.points n.hull (prices_of n es) → IsLeastSlack n.points n.hull (prices_of n es) u v m
+    → y ≤ℤ pos most_raised → (share n.points n.hull (prices_of n es) u v +ℤ y) ≤ℤ pos (403 * 10 ^ 15) → (y ≤ℤ (y +ℤ m)) × ((y +ℤ m) ≤ℤ pos most_raised)
+raised-fits n es u v m y b feasible least high gross =
+    let some = (least_fits n es u v m b feasible least).0 in
     ⊎_elim
     (λ (h : ((t : Tri) × IsLiveOn n.points (prices_of n es) u v t × (slack n.points n.hull (prices_of n es) t ≡ m))
     × ((t : Tri) → IsLiveOn n.points (prices_of n es) u v t → m ≤ℤ slack n.points n.hull (prices_of n es) t)).
-    (omega (arith, ints, low, some), subst (λ (z : ℤ). (y +ℤ z) <ℤ pos (10 ^ 18)) h.0.2 (below h.0.0 h.0.1)))
+    let is = h.0.2 in
+    let beside = slack-beside n es h.0.0 u v b h.0.1.1 h.0.1.0 in
+    (omega (arith, ints, some), omega (arith, ints, is, beside, gross)))
     (λ (h : ((t : Tri) → ¬ IsLiveOn n.points (prices_of n es) u v t) × (m ≡ pos 0)).
     let none = h.1 in
-    (omega (arith, ints, low, some), omega (arith, ints, none, high)))
+    (omega (arith, ints, some), omega (arith, ints, none, high)))
     least
-
-pub anchor_fits_up : (n : NetworkParts) (es : List Entry) (u v : ℕ) (m y : ℤ) → BelongTo n es → IsLeastSlack n.points n.hull (prices_of n es) u v m → IsAnchor y → u < v
-    → (share n.points n.hull (prices_of n es) u v +ℤ y) ≤ℤ pos (403 * 10 ^ 15) → IsAnchor (y +ℤ m)
-anchor_fits_up n es u v m y b least anchor l gross =
-    raised-fits n es u v m y b least anchor (λ t on. let beside = slack-beside_up n es t u v b on.1 on.0 l in omega (arith, ints, beside, gross))
-
-pub anchor_fits : (n : NetworkParts) (es : List Entry) (u v : ℕ) (m y : ℤ) → BelongTo n es → IsLeastSlack n.points n.hull (prices_of n es) u v m → IsAnchor y
-    → (share n.points n.hull (prices_of n es) u v +ℤ y) ≤ℤ pos (3 * 10 ^ 15) → IsAnchor (y +ℤ m)
-anchor_fits n es u v m y b least anchor gross =
-    raised-fits n es u v m y b least anchor (λ t on. let beside = slack-beside n es t u v b on.1 on.0 in omega (arith, ints, beside, gross))

@@ -10,7 +10,7 @@ use Rattle.lmt_network.specs.Numbers.{IsHullNumber}
 use Rattle.lmt_network.specs.Prices.{is_on_hull, share, weight_between}
 use Rattle.lmt_network.proofs.Entries.{is_on_hull-comm, is_on_hull_decides}
 use Rattle.price_ascent.specs.declared.entry.Entry.{Entry}
-use Rattle.price_ascent.specs.Belonging.{BelongTo}
+use Rattle.price_ascent.specs.Belonging.{AreEntriesOf}
 use Rattle.price_ascent.specs.Entries.{entry, prices_of}
 use Rattle.price_ascent.specs.Steps.{AreShares}
 use Rattle.price_ascent.proofs.Kept.{share-kept}
@@ -66,7 +66,7 @@ hull_number n e on = (is_on_hull_decides n.hull (edge_at n e).a (edge_at n e).b)
 pub inner_number : (n : NetworkParts) (e : ℕ) → on_hull n e ≡ false → ¬ IsHullNumber n e
 inner_number n e off h = false≢true (sym off ∙ (is_on_hull_decides n.hull (edge_at n e).a (edge_at n e).b).1 h)
 
-pub own_shares : (n : NetworkParts) (es : List Entry) (e : ℕ) → BelongTo n es → e < length n.edges → (entry es e).live ≡ true → HasShares n es e (entry es e).up (entry es e).down
+pub own_shares : (n : NetworkParts) (es : List Entry) (e : ℕ) → AreEntriesOf n es → e < length n.edges → (entry es e).live ≡ true → HasShares n es e (entry es e).up (entry es e).down
 own_shares n es e b e_in live =
     let up = (b.each e e_in).up live in
     let down = (b.each e e_in).down live in
@@ -78,7 +78,7 @@ own_shares n es e b e_in live =
       off_down = λ off. down ∙ h.off_down off;
     }
 
-pub shares_fit : (n : NetworkParts) (es : List Entry) (e : ℕ) → BelongTo n es → e < length n.edges → (entry es e).live ≡ true → AreShares (entry es e)
+pub shares_fit : (n : NetworkParts) (es : List Entry) (e : ℕ) → AreEntriesOf n es → e < length n.edges → (entry es e).live ≡ true → AreShares (entry es e)
 shares_fit n es e b e_in live =
     let h = own_shares n es e b e_in live in
     let is = b.each e e_in in
@@ -94,12 +94,12 @@ shares_fit n es e b e_in live =
     let y1 = anchor.1 in
     let up = h.on_up on in
     let down = h.on_down on in
-    record { up_low = omega (arith, ints); up_high = omega (arith, ints); down_low = omega (arith, ints); down_high = omega (arith, ints) })
+    record { up = (omega (arith, ints), omega (arith, ints)); down = (omega (arith, ints), omega (arith, ints)) })
     (λ off.
     let price = is.price (inner_number n e off) in
     let p0 = price.0 in
     let p1 = price.1 in
     let up = h.off_up off in
     let down = h.off_down off in
-    record { up_low = omega (arith, ints); up_high = omega (arith, ints); down_low = omega (arith, ints); down_high = omega (arith, ints) })
+    record { up = (omega (arith, ints), omega (arith, ints)); down = (omega (arith, ints), omega (arith, ints)) })
     (cases_Bool (on_hull n e))

@@ -160,31 +160,37 @@ small_first n flags es e a e_in =
 pub first_belong : (n : NetworkParts) (flags : List Bool) (es : List Entry) → AreFirst n flags es → BelongTo n es
 first_belong n flags es a =
     record {
-      network = a.network;
-      one_each = a.one_each;
-      light = λ e e_in live. a.light e e_in (sym (entry-live n flags es e a e_in) ∙ live);
-      each = λ e e_in.
+      entries = record {
+        network = a.network;
+        one_each = a.one_each;
+        light = λ e e_in live. a.light e e_in (sym (entry-live n flags es e a e_in) ∙ live);
+        each = λ e e_in.
+            let s = small_first n flags es e a e_in in
+            let low = s.value_low in
+            let high = value_high e e_in in
+            let left = s.left in
+            let right = s.right in
+            record {
+              price = λ inner. (omega (arith, ints, low), omega (arith, ints, high));
+              anchor = λ hull. (omega (arith, ints, low), omega (arith, ints, high));
+              left = (omega (arith, ints, left), omega (arith, ints, left));
+              right = (omega (arith, ints, right), omega (arith, ints, right));
+              up = λ live. (shares_first n flags es e a e_in live).0;
+              down = λ live. (shares_first n flags es e a e_in live).1;
+              killed = λ dead. s.value_dead dead;
+              hull_live = λ hull. entry-live n flags es e a e_in ∙ a.hull_live e e_in hull;
+              inner = λ on. absurd (false≢true (sym (none_yet n flags es e a) ∙ on));
+              elsewhere = λ off. (left, right);
+            };
+      };
+      prices = λ e e_in inner. value_high e e_in;
+      anchors = λ e e_in hull. (small_first n flags es e a e_in).value_low;
+      bare = λ e e_in.
           let s = small_first n flags es e a e_in in
-          let low = s.value_low in
-          let left = s.left in
-          let right = s.right in
           record {
-            price = λ inner. (
-              omega (arith, ints, low),
-              ⊎_elim (λ live. s.value_high live) (λ dead. let zero = s.value_dead dead in omega (arith, ints, zero)) (cases_Bool (entry es e).live),
-            );
-            anchor = λ hull. let zero = s.value_hull (hull_on n e hull) in (low, omega (arith, ints, zero));
-            left = (omega (arith, ints, left), omega (arith, ints, left));
-            right = (omega (arith, ints, right), omega (arith, ints, right));
-            up = λ live. (shares_first n flags es e a e_in live).0;
-            down = λ live. (shares_first n flags es e a e_in live).1;
-            killed = λ dead. s.value_dead dead;
-            hull_live = λ hull. entry-live n flags es e a e_in ∙ a.hull_live e e_in hull;
-            inner = λ on. absurd (false≢true (sym (none_yet n flags es e a) ∙ on));
-            elsewhere = λ off. (left, right);
-            bare_hull = λ u v is pair bare. s.value_hull (hull_on n e (hull_of n e u v is pair));
-            bare_left = λ bare. left;
-            bare_right = λ bare. right;
+            hull = λ u v is pair bare. s.value_hull (hull_on n e (hull_of n e u v is pair));
+            left = λ bare. s.left;
+            right = λ bare. s.right;
           };
       feasible = λ t over.
           let ab = share-first n flags es t t.a t.b a over (t.c, inl (refl, refl, refl)) in
@@ -192,6 +198,11 @@ first_belong n flags es a =
           let ca = share-first n flags es t t.c t.a a over (t.b, inr (inr (refl, refl, refl))) in
           omega (arith, ints, ab, bc, ca);
     }
+  where
+    value_high : (e : ℕ) → e < length n.edges → (entry es e).value ≤ℤ pos (15 * 10 ^ 14)
+    value_high e e_in =
+        let s = small_first n flags es e a e_in in
+        ⊎_elim (λ live. s.value_high live) (λ dead. let zero = s.value_dead dead in omega (arith, ints, zero)) (cases_Bool (entry es e).live)
 
 -- and they are the start
 pub first_start : (n : NetworkParts) (flags : List Bool) (es : List Entry) → AreFirst n flags es → IsStart n flags (table_of es)

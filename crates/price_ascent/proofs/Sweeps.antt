@@ -1,5 +1,5 @@
 -- A sweep, edge by edge.
-use Rattle.std.proofs.Common.{◌≡◌, ◌≢◌, ◌⊎◌, ℕ, ◌+◌, ◌<◌, ◌≤◌, Bool, true, false, List, length, get_or, map, set, take, drop, ◌++◌, ℤ, pos, ◌-ℤ◌, ◌≤ℤ◌, refl, ap, sym, ◌∙◌, subst, arith, ⊎_elim}
+use Rattle.std.proofs.Common.{◌≡◌, ◌≢◌, ℕ, zero, suc, ◌+◌, ◌<◌, ◌≤◌, Bool, true, false, List, length, get_or, map, set, take, drop, ◌++◌, ℤ, pos, ◌-ℤ◌, ◌≤ℤ◌, refl, ap, sym, ◌∙◌, subst, arith, ⊎_elim, inr}
 use Rattle.std.specs.Int.{int_max}
 use Rattle.std.proofs.lemmas.Bool.{cases_eq, false≢true}
 use Rattle.std.proofs.lemmas.Int.{ints}
@@ -8,31 +8,23 @@ use Rattle.lmt_network.specs.Flags.{live_numbers}
 use Rattle.lmt_network.specs.Network.{NetworkParts, edge_at}
 use Rattle.lmt_network.specs.Numbers.{IsHullNumber}
 use Rattle.lmt_network.specs.PriceTables.{PriceTable, table_prices}
+use Rattle.lmt_network.specs.Prices.{IsFeasible}
 use Rattle.price_ascent.specs.declared.entry.Entry.{Entry}
-use Rattle.price_ascent.specs.Ascent.{IsInner, IsLeastSlack, IsSweep, IsSwept, lowest, mixed}
-use Rattle.price_ascent.specs.Belonging.{BelongTo}
-use Rattle.price_ascent.specs.Entries.{entry, live_of, no_entry, table_of}
+use Rattle.price_ascent.specs.Ascent.{AreSweeps, IsInner, IsLeastSlack, IsSweep, IsSwept, lowest, mixed}
+use Rattle.price_ascent.specs.Belonging.{AreEntriesOf, AreZeroWhereBare, BelongTo}
+use Rattle.price_ascent.specs.Entries.{entry, live_of, no_entry, prices_of, table_of}
 use Rattle.price_ascent.specs.Steps.{IsLowered, lowered}
+use Rattle.price_ascent.specs.Swept.{AreSwept}
 use Rattle.price_ascent.proofs.Changed.{IsChange, live_same, new_entry, other_entry, same_field}
 use Rattle.price_ascent.proofs.Kept.{get_or-mapped, live_at, same_table, value_is}
 use Rattle.price_ascent.proofs.Lowering.{IsFall, fall_is}
+use Rattle.price_ascent.proofs.Narrow.{bare_kept, belong_kept}
 
--- Of the edges, the first i have been swept, from es to fs.
-pub record AreSwept (n : NetworkParts) (es fs : List Entry) (i : ℕ) : Type 0 where
-  pub belong : BelongTo n fs
-  pub live : live_of fs ≡ live_of es
-  pub anchored : map (λ p. p.anchored) fs ≡ map (λ p. p.anchored) es
-  pub lefts : map (λ p. p.left) fs ≡ map (λ p. p.left) es
-  pub rights : map (λ p. p.right) fs ≡ map (λ p. p.right) es
-  pub rest : drop i fs ≡ drop i es
-  pub prices : (k : ℕ) → k < i → IsInner n (live_of es) k → IsSwept n (live_of es) (table_of es) (table_of fs) k
-  pub others : (k : ℕ) → (get_or (live_of es) k false ≡ false) ⊎ IsHullNumber n k → (entry fs k).value ≡ (entry es k).value
-  pub falls : (k : ℕ) → (entry fs k).value ≤ℤ (entry es k).value
-
-pub none_swept : (n : NetworkParts) (es : List Entry) → BelongTo n es → AreSwept n es es 0
-none_swept n es b =
+pub none_swept : (n : NetworkParts) (es : List Entry) → AreEntriesOf n es → IsFeasible n.points n.hull (prices_of n es) → AreSwept n es es 0
+none_swept n es b feasible =
     record {
-      belong = b;
+      entries = b;
+      feasible = feasible;
       live = refl;
       anchored = refl;
       lefts = refl;
@@ -50,7 +42,8 @@ drop-next fs es i same = sym (drop-drop 1 i fs) ∙ (ap (drop 1) same ∙ drop-d
 pub skipped : (n : NetworkParts) (es fs : List Entry) (i : ℕ) → AreSwept n es fs i → ¬ IsInner n (live_of es) i → AreSwept n es fs (i + 1)
 skipped n es fs i h outer =
     record {
-      belong = h.belong;
+      entries = h.entries;
+      feasible = h.feasible;
       live = h.live;
       anchored = h.anchored;
       lefts = h.lefts;
@@ -114,14 +107,15 @@ swept_before n es fs gs i k x c l s =
     }
 
 -- one more edge is swept
-pub more_swept : (n : NetworkParts) (es fs gs : List Entry) (i : ℕ) → AreSwept n es fs i → BelongTo n gs → i < length n.edges → IsInner n (live_of es) i → IsLowered n fs gs i → AreSwept n es gs (i + 1)
-more_swept n es fs gs i h after i_in inner r =
+pub more_swept : (n : NetworkParts) (es fs gs : List Entry) (i : ℕ) → AreSwept n es fs i → AreEntriesOf n gs → IsFeasible n.points n.hull (prices_of n gs) → i < length n.edges → IsInner n (live_of es) i → IsLowered n fs gs i → AreSwept n es gs (i + 1)
+more_swept n es fs gs i h after feasible i_in inner r =
     let x = lowered (entry fs i) r.m in
-    let c : IsChange n fs gs i x = record { belong = h.belong; e_in = i_in; is = r.entry_is; live = refl } in
+    let c : IsChange n fs gs i x = record { entries = h.entries; e_in = i_in; is = r.entry_is; live = refl } in
     let live : (entry fs i).live ≡ true = sym (live_at fs i) ∙ (ap (λ bs. get_or bs i false) h.live ∙ inner.0) in
-    let f : IsFall n fs gs i r.m = record { change = c; live = live; inner = inner.1; least = r.least } in
+    let f : IsFall n fs gs i r.m = record { change = c; feasible = h.feasible; live = live; inner = inner.1; least = r.least } in
     record {
-      belong = after;
+      entries = after;
+      feasible = feasible;
       live = live_same n fs gs i x c ∙ h.live;
       anchored = ap (map (λ p. p.anchored)) r.entry_is ∙ (same_field (λ p. p.anchored) fs i x false (get_or-mapped (λ (p : Entry). p.anchored) fs i no_entry) ∙ h.anchored);
       lefts = ap (map (λ p. p.left)) r.entry_is ∙ (same_field (λ p. p.left) fs i x (pos 0) (get_or-mapped (λ (p : Entry). p.left) fs i no_entry) ∙ h.lefts);
@@ -148,12 +142,31 @@ more_swept n es fs gs i h after i_in inner r =
     }
 
 -- all edges are swept
-pub all_swept : (n : NetworkParts) (es fs : List Entry) (i : ℕ) → BelongTo n es → AreSwept n es fs i → length n.edges ≤ i → IsSweep n (live_of es) (table_of es) (table_of fs)
+pub all_swept : (n : NetworkParts) (es fs : List Entry) (i : ℕ) → AreEntriesOf n es → AreSwept n es fs i → length n.edges ≤ i → IsSweep n (live_of es) (table_of es) (table_of fs)
 all_swept n es fs i b h all =
     record {
-      one_each = length-map fs (λ (p : Entry). p.value) ∙ (h.belong.one_each ∙ (sym b.one_each ∙ sym (length-map es (λ (p : Entry). p.value))));
+      one_each = length-map fs (λ (p : Entry). p.value) ∙ (h.entries.one_each ∙ (sym b.one_each ∙ sym (length-map es (λ (p : Entry). p.value))));
       prices = λ k k_in inner. h.prices k (omega arith) inner;
       others = λ k out. value_is fs k ∙ (h.others k out ∙ sym (value_is es k));
       lefts = h.lefts;
       rights = h.rights;
     }
+
+-- a field of all entries that is the same
+field_at : (f : Entry → ℤ) (es fs : List Entry) (k : ℕ) → map f fs ≡ map f es → f (entry fs k) ≡ f (entry es k)
+field_at f es fs k same = sym (get_or-mapped f fs k no_entry) ∙ (ap (λ xs. get_or xs k (f no_entry)) same ∙ get_or-mapped f es k no_entry)
+
+pub swept_bare : (n : NetworkParts) (es fs : List Entry) (i : ℕ) → AreEntriesOf n es → AreSwept n es fs i → AreZeroWhereBare n es → AreZeroWhereBare n fs
+swept_bare n es fs i b h =
+    bare_kept n es fs b.one_each h.entries.one_each h.live (λ k hull. h.others k (inr hull)) (λ k. field_at (λ p. p.left) es fs k h.lefts) (λ k. field_at (λ p. p.right) es fs k h.rights)
+
+pub swept_belong : (n : NetworkParts) (es fs : List Entry) (i : ℕ) → AreSwept n es fs i → BelongTo n es → BelongTo n fs
+swept_belong n es fs i h b =
+    belong_kept n es fs b h.entries (swept_bare n es fs i b.entries h b.bare) h.feasible (λ k inner. h.falls k) (λ k hull. let same = h.others k (inr hull) in omega (arith, ints, same))
+
+-- where a sweep changes nothing the later ones change nothing either
+pub sweeps_at_rest : (n : NetworkParts) (live : List Bool) (k more : ℕ) (first last : PriceTable) → AreSweeps n live k first last → IsSweep n live last last → AreSweeps n live (more + k) first last
+sweeps_at_rest n live k zero first last h rest = let same : k ≡ 0 + k = omega arith in subst (λ (i : ℕ). AreSweeps n live i first last) same h
+sweeps_at_rest n live k (suc more) first last h rest =
+    let next : suc (more + k) ≡ suc more + k = omega arith in
+    subst (λ (i : ℕ). AreSweeps n live i first last) next (last, sweeps_at_rest n live k more first last h rest, rest)

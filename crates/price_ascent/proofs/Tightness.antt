@@ -12,7 +12,7 @@ use Rattle.lmt_network.specs.Prices.{IsTight, IsTightSide, Priced, priced}
 use Rattle.lmt_network.proofs.Picked.{AllPairs-picked, Contains-cases, Contains-here, Contains-later, Contains-nil, picked_from}
 use Rattle.price_ascent.specs.declared.entry.Entry.{Entry}
 use Rattle.price_ascent.specs.Ascent.{IsTighten, both_sides}
-use Rattle.price_ascent.specs.Belonging.{BelongTo, IsBareSide}
+use Rattle.price_ascent.specs.Belonging.{AreEntriesOf, AreZeroWhereBare, IsBareSide}
 use Rattle.price_ascent.specs.Entries.{anchored_edges, entry, live_of, no_entry, prices_of, table_of}
 use Rattle.price_ascent.specs.Raised.{AreRaised, IsRaisedAlong, IsSettled}
 use Rattle.price_ascent.proofs.Along.{IsFull}
@@ -25,7 +25,8 @@ use Rattle.price_ascent.proofs.Raised.{along_append}
 
 -- all sides of the hull, and then all inner ones
 pub record AreTightened (n : NetworkParts) (es fs gs : List Entry) : Type 0 where
-  pub belong : BelongTo n es
+  pub entries : AreEntriesOf n es
+  pub bare : AreZeroWhereBare n es
   pub hull : AreRaised n es fs (ring_pairs n.hull) []
   pub inner : AreRaised n fs gs (flat_map both_sides (anchored_edges n fs)) []
 
@@ -36,7 +37,7 @@ anchored-number n es e has =
     (r.0, r.1, get_or_default n.edges r.0 _ e r.1 ∙ r.3, sym (get_or-mapped (λ (p : Entry). p.anchored) es r.0 no_entry) ∙ r.2)
 
 -- the table of prices that belong to a network has an entry an edge
-pub full_table : (n : NetworkParts) (es : List Entry) → BelongTo n es → IsFull n (table_of es)
+pub full_table : (n : NetworkParts) (es : List Entry) → AreEntriesOf n es → IsFull n (table_of es)
 full_table n es b =
     record {
       values = length-map es (λ (p : Entry). p.value) ∙ b.one_each;
@@ -45,7 +46,7 @@ full_table n es b =
     }
 
 -- the anchored edges are off the hull
-off_hull : (n : NetworkParts) (es : List Entry) → BelongTo n es → AreOffHull n.hull (anchored_edges n es)
+off_hull : (n : NetworkParts) (es : List Entry) → AreEntriesOf n es → AreOffHull n.hull (anchored_edges n es)
 off_hull n es b f has hull =
     let k = anchored-number n es f has in
     ((b.each k.0 k.1).inner k.3).1 (subst (IsHullEdge n.hull) (sym k.2) hull)
@@ -56,8 +57,8 @@ tightened n es fs gs r =
     let first = r.hull.along (table_of fs) refl in
     let second = r.inner.along (table_of gs) refl in
     let same : anchored_edges n fs ≡ anchored_edges n es = ap (live_edges n) r.hull.anchored in
-    along_tightens n (live_of es) (anchored_edges n es) (table_of es) (table_of gs) r.belong.network (full_table n es r.belong)
-    (AllPairs-picked EdgePrecedes (map (λ p. p.anchored) es) n.edges r.belong.network.ascending) (off_hull n es r.belong)
+    along_tightens n (live_of es) (anchored_edges n es) (table_of es) (table_of gs) r.entries.network (full_table n es r.entries)
+    (AllPairs-picked EdgePrecedes (map (λ p. p.anchored) es) n.edges r.entries.network.ascending) (off_hull n es r.entries)
     (along_append n (live_of es) (ring_pairs n.hull) (flat_map both_sides (anchored_edges n es)) (table_of es) (table_of fs) (table_of gs) first
     (subst (λ (xs : List Edge). IsRaisedAlong n (live_of es) (flat_map both_sides xs) (table_of fs) (table_of gs)) same
     (subst (λ (bs : List Bool). IsRaisedAlong n bs (flat_map both_sides (anchored_edges n fs)) (table_of fs) (table_of gs)) r.hull.live second)))
@@ -89,39 +90,40 @@ right_among (x ∷ xs) e h =
     (Contains-cases x e xs h)
 
 -- the anchors of an anchored edge
-left_zero : (n : NetworkParts) (es : List Entry) (k : ℕ) → BelongTo n es → k < length n.edges → (entry es k).anchored ≡ true
+left_zero : (n : NetworkParts) (es : List Entry) (k : ℕ) → AreEntriesOf n es → AreZeroWhereBare n es → k < length n.edges → (entry es k).anchored ≡ true
     → IsBareSide n.points (prices_of n es) (edge_at n k).a (edge_at n k).b → (priced (prices_of n es) (edge_at n k).a (edge_at n k).b).left ≡ pos 0
-left_zero n es k b k_in anchored bare =
+left_zero n es k b z k_in anchored bare =
     let h = b.each k k_in in
-    ap (λ (p : Priced). p.left) (priced-kept n es k _ _ b.network b.one_each (h.inner anchored).0 (k_in, Joins-ends (edge_at n k))) ∙ h.bare_left bare
+    ap (λ (p : Priced). p.left) (priced-kept n es k _ _ b.network b.one_each (h.inner anchored).0 (k_in, Joins-ends (edge_at n k))) ∙ (z k k_in).left bare
 
-right_zero : (n : NetworkParts) (es : List Entry) (k : ℕ) → BelongTo n es → k < length n.edges → (entry es k).anchored ≡ true
+right_zero : (n : NetworkParts) (es : List Entry) (k : ℕ) → AreEntriesOf n es → AreZeroWhereBare n es → k < length n.edges → (entry es k).anchored ≡ true
     → IsBareSide n.points (prices_of n es) (edge_at n k).b (edge_at n k).a → (priced (prices_of n es) (edge_at n k).a (edge_at n k).b).right ≡ pos 0
-right_zero n es k b k_in anchored bare =
+right_zero n es k b z k_in anchored bare =
     let h = b.each k k_in in
-    ap (λ (p : Priced). p.right) (priced-kept n es k _ _ b.network b.one_each (h.inner anchored).0 (k_in, Joins-ends (edge_at n k))) ∙ h.bare_right bare
+    ap (λ (p : Priced). p.right) (priced-kept n es k _ _ b.network b.one_each (h.inner anchored).0 (k_in, Joins-ends (edge_at n k))) ∙ (z k k_in).right bare
 
-hull_zero : (n : NetworkParts) (es : List Entry) (u v : ℕ) → BelongTo n es → IsHullPair n.hull u v → IsBareSide n.points (prices_of n es) u v → (priced (prices_of n es) u v).value ≡ pos 0
-hull_zero n es u v b pair bare =
+hull_zero : (n : NetworkParts) (es : List Entry) (u v : ℕ) → AreEntriesOf n es → AreZeroWhereBare n es → IsHullPair n.hull u v → IsBareSide n.points (prices_of n es) u v → (priced (prices_of n es) u v).value ≡ pos 0
+hull_zero n es u v b z pair bare =
     let k = hull_number_there n u v b.network pair in
     let h = b.each k.0 k.1.0 in
-    ap (λ (p : Priced). p.value) (priced-kept n es k.0 u v b.network b.one_each (h.hull_live (hull_of n k.0 u v k.1 pair)) k.1) ∙ h.bare_hull u v k.1 pair bare
+    ap (λ (p : Priced). p.value) (priced-kept n es k.0 u v b.network b.one_each (h.hull_live (hull_of n k.0 u v k.1 pair)) k.1) ∙ (z k.0 k.1.0).hull u v k.1 pair bare
 
 -- the prices are tight
 pub tight : (n : NetworkParts) (es fs gs : List Entry) → AreTightened n es fs gs → IsTight n.points n.hull (anchored_edges n gs) (prices_of n gs)
 tight n es fs gs r =
-    let b = r.inner.belong in
+    let b = r.inner.entries in
+    let z = r.inner.bare (r.hull.bare r.bare) in
     let back : anchored_edges n gs ≡ anchored_edges n fs = ap (live_edges n) r.inner.anchored in
     record {
-      hull_sides = λ u v pair. tight_side n gs u v _ (⊎_elim (λ none. absurd (Contains-nil (u, v) none)) (λ s. r.inner.keeps u v s) (r.hull.settled u v pair)) (hull_zero n gs u v b pair);
+      hull_sides = λ u v pair. tight_side n gs u v _ (⊎_elim (λ none. absurd (Contains-nil (u, v) none)) (λ s. r.inner.keeps u v s) (r.hull.settled u v pair)) (hull_zero n gs u v b z pair);
       lefts = λ e has.
           let k = anchored-number n gs e has in
           tight_side n gs e.a e.b _
           (⊎_elim (λ none. absurd (Contains-nil (e.a, e.b) none)) (λ s. s) (r.inner.settled e.a e.b (left_among (anchored_edges n fs) e (subst (λ (xs : List Edge). Contains xs e) back has))))
-          (subst (λ (x : Edge). IsBareSide n.points (prices_of n gs) x.a x.b → (priced (prices_of n gs) x.a x.b).left ≡ pos 0) k.2 (left_zero n gs k.0 b k.1 k.3));
+          (subst (λ (x : Edge). IsBareSide n.points (prices_of n gs) x.a x.b → (priced (prices_of n gs) x.a x.b).left ≡ pos 0) k.2 (left_zero n gs k.0 b z k.1 k.3));
       rights = λ e has.
           let k = anchored-number n gs e has in
           tight_side n gs e.b e.a _
           (⊎_elim (λ none. absurd (Contains-nil (e.b, e.a) none)) (λ s. s) (r.inner.settled e.b e.a (right_among (anchored_edges n fs) e (subst (λ (xs : List Edge). Contains xs e) back has))))
-          (subst (λ (x : Edge). IsBareSide n.points (prices_of n gs) x.b x.a → (priced (prices_of n gs) x.a x.b).right ≡ pos 0) k.2 (right_zero n gs k.0 b k.1 k.3));
+          (subst (λ (x : Edge). IsBareSide n.points (prices_of n gs) x.b x.a → (priced (prices_of n gs) x.a x.b).right ≡ pos 0) k.2 (right_zero n gs k.0 b z k.1 k.3));
     }

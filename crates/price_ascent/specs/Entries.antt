@@ -1,8 +1,8 @@
 -- What is kept of each edge of a network, by its number, and the prices that it gives.
-use Rattle.std.specs.Prelude.{ℕ, Bool, false, List, map, pos, slice_index_or}
+use Rattle.std.specs.Prelude.{ℕ, Bool, false, List, map, ℤ, pos, slice_index_or}
 use Rattle.exact_predicates.specs.declared.edge.Edge.{Edge}
 use Rattle.lmt_network.specs.Flags.{live_edges, live_numbers}
-use Rattle.lmt_network.specs.Network.{NetworkParts}
+use Rattle.lmt_network.specs.Network.{NetworkParts, edge_at}
 use Rattle.lmt_network.specs.PriceTables.{PriceTable, table_prices}
 use Rattle.lmt_network.specs.Prices.{Priced}
 use Rattle.price_ascent.specs.declared.entry.Entry.{Entry}
@@ -29,3 +29,7 @@ prices_of n es = table_prices n (table_of es) (live_numbers (live_of es))
 -- the inner edges with anchors, ascending
 abbrev pub anchored_edges : NetworkParts → List Entry → List Edge
 anchored_edges n es = live_edges n (map (λ p. p.anchored) es)
+
+-- the edge e with these amounts
+abbrev pub with_amounts : NetworkParts → ℕ → ℤ → ℤ → ℤ → Priced
+with_amounts n e value left right = record { edge = edge_at n e; value = value; left = left; right = right }

@@ -5,3 +5,4 @@ pub mod OneAscent
 pub mod Raised
 pub mod Steps
 pub mod Sums
+pub mod Swept

@@ -6,10 +6,10 @@ use Rattle.lmt_network.specs.Network.{NetworkParts}
 use Rattle.lmt_network.specs.Flags.{live_numbers}
 use Rattle.lmt_network.specs.Numbers.{IsHullNumber, IsNumberOf}
 use Rattle.lmt_network.specs.PriceTables.{PriceTable, table_prices}
-use Rattle.lmt_network.specs.Prices.{is_on_hull, slack}
+use Rattle.lmt_network.specs.Prices.{IsFeasible, is_on_hull, slack}
 use Rattle.price_ascent.specs.declared.entry.Entry.{Entry}
 use Rattle.price_ascent.specs.Ascent.{IsLeastSlack, IsLiveOn, both_sides}
-use Rattle.price_ascent.specs.Belonging.{BelongTo, IsBareSide}
+use Rattle.price_ascent.specs.Belonging.{AreEntriesOf, AreZeroWhereBare, IsBareSide}
 use Rattle.price_ascent.specs.Entries.{entry, live_of, prices_of, table_of}
 
 -- the list with m more at the place e
@@ -46,7 +46,9 @@ IsSettled n es u v =
 
 -- Of the sides, all but the rest have been raised one after the other, from es to fs.
 pub record AreRaised (n : NetworkParts) (es fs : List Entry) (sides rest : List (ℕ × ℕ)) : Type 0 where
-  pub belong : BelongTo n fs
+  pub entries : AreEntriesOf n fs
+  pub feasible : IsFeasible n.points n.hull (prices_of n fs)
+  pub bare : AreZeroWhereBare n es → AreZeroWhereBare n fs
   pub live : live_of fs ≡ live_of es
   pub anchored : map (λ p. p.anchored) fs ≡ map (λ p. p.anchored) es
   pub prices : (e : ℕ) → ¬ IsHullNumber n e → (entry fs e).value ≡ (entry es e).value

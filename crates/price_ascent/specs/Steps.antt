@@ -27,6 +27,19 @@ start_entry n live e =
 abbrev pub anchored : Entry → Entry
 anchored p = record p { anchored = true }
 
+-- The entry with these amounts, of an edge of the hull or not, and the shares that they leave. The weight of the edge is
+-- what its left side has given away.
+abbrev pub repriced : Entry → Bool → ℤ → ℤ → ℤ → Entry
+repriced p on_hull value left right =
+    let weight = (p.up +ℤ p.value) +ℤ p.left in
+    record p {
+      value = value;
+      left = left;
+      right = right;
+      up = (weight -ℤ value) -ℤ left;
+      down = cond on_hull (weight -ℤ value) (value -ℤ right);
+    }
+
 -- the entry with its price lowered by m, but not below the lowest
 abbrev pub lowered : Entry → ℤ → Entry
 lowered p m =
@@ -65,16 +78,18 @@ pub record IsRaisedEntry (n : NetworkParts) (old new : List Entry) (e u v : ℕ)
   pub least : IsLeastSlack n.points n.hull (prices_of n old) u v m
   pub entry_is : new ≡ slice_set old e (raise (entry old e) m)
 
--- how large the shares of a live edge are
+-- a share of a live edge
+abbrev pub IsShare : ℤ → Type 0
+IsShare s = (neg_ℤ (pos (281 * 10 ^ 16)) ≤ℤ s) × (s ≤ℤ pos (1003 * 10 ^ 15))
+
+-- the shares of a live edge
 pub record AreShares (p : Entry) : Type 0 where
-  pub up_low : neg_ℤ (pos (2 * 10 ^ 18)) ≤ℤ p.up
-  pub up_high : p.up ≤ℤ pos (403 * 10 ^ 15)
-  pub down_low : neg_ℤ (pos (2 * 10 ^ 18)) ≤ℤ p.down
-  pub down_high : p.down ≤ℤ pos (3 * 10 ^ 15)
+  pub up : IsShare p.up
+  pub down : IsShare p.down
 
 -- a least slack
 abbrev pub IsSlack : ℤ → Type 0
-IsSlack m = (pos 0 ≤ℤ m) × (m ≤ℤ pos (809 * 10 ^ 15))
+IsSlack m = (pos 0 ≤ℤ m) × (m ≤ℤ pos (3009 * 10 ^ 15))
 
 -- m is the least slack of the live triangles among these, the first i of a row, or none where there is none
 abbrev pub IsLeastUpto : NetworkParts → List Entry → List ℕ → ℕ → Option ℤ → Type 0

@@ -5,7 +5,7 @@ ghost use Rattle.lmt_network.specs.Flags.{live_edges, live_numbers};
 ghost use Rattle.lmt_network.specs.Live.{IsHullEdge};
 ghost use Rattle.lmt_network.specs.Numbers.{AreLive};
 ghost use Rattle.lmt_network.specs.Prices.{IsFeasible, IsTight};
-ghost use Rattle.price_ascent.specs.Ascent.{IsAscent};
+ghost use Rattle.price_ascent.specs.Ascent.{AreSweeps, IsAscent};
 ghost use Rattle.price_ascent.specs.Belonging.{BelongTo};
 ghost use Rattle.price_ascent.specs.Entries.{anchored_edges, live_of, prices_of, table_of};
 
@@ -38,10 +38,25 @@ impl Prices {
             → Contains (anchored_edges net.now prices) e ↔ (Contains skeleton.now e × (¬ IsHullEdge net.now.hull e))) }
     {
         let mut prices = Prices::start(alloc, net, flags, skeleton)?;
-        for _done in 0..sweeps {
-            prices.sweep(net, flags);
-        }
+        prices.sweep_all(net, flags, sweeps);
         prices.tighten(net, flags);
         Ok(prices)
+    }
+
+    // So many sweeps. After one that changes nothing the others would change nothing either, and are
+    // left out.
+    fn sweep_all(&mut self, net: &Network, flags: &Flags, sweeps: u32)
+        requires belong { BelongTo net.now self.old }
+        requires live { flags.now ≡ live_of self.old }
+        ensures sweeps { AreSweeps net.now flags.now sweeps (table_of self.old) (table_of self.new) }
+        ensures belong { BelongTo net.now self.new }
+        ensures live { live_of self.new ≡ live_of self.old }
+        ensures anchored { anchored_edges net.now self.new ≡ anchored_edges net.now self.old }
+    {
+        for _done in 0..sweeps {
+            if !self.lower_all(net, flags) {
+                return;
+            }
+        }
     }
 }

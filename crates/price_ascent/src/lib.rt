@@ -10,6 +10,7 @@ mod entry;
 mod law;
 mod number;
 mod prices;
+mod put;
 mod raise;
 mod slacks;
 mod start;

@@ -5,7 +5,7 @@ ghost use Rattle.lmt_network.specs.Network.{tri_at};
 ghost use Rattle.lmt_network.specs.Numbers.{IsSideOf};
 ghost use Rattle.lmt_network.specs.Prices.{slack};
 ghost use Rattle.price_ascent.specs.Ascent.{left_at, right_at, value_at};
-ghost use Rattle.price_ascent.specs.Belonging.{BelongTo};
+ghost use Rattle.price_ascent.specs.Belonging.{AreEntriesOf};
 ghost use Rattle.price_ascent.specs.Entries.{entry, live_of, prices_of, table_of};
 
 use crate::entry::Entry;
@@ -66,7 +66,7 @@ impl Prices {
 
     /// The slack of a live triangle, in millionths: what its three sides give together.
     pub fn slack(&self, net: &Network, t: u32) -> i128
-        requires belong { BelongTo net.now self.now }
+        requires entries { AreEntriesOf net.now self.now }
         requires t_in { t < length net.now.tris }
         requires live { (f : ℕ) → IsSideOf net.now t f → Contains (live_numbers (live_of self.now)) f }
         ensures { result ≡ slack net.now.points net.now.hull (prices_of net.now self.now) (tri_at net.now t) }
@@ -91,7 +91,7 @@ impl Prices {
     }
 
     // Keeps this of the edge.
-    pub(crate) fn put(&mut self, e: u32, kept: Entry)
+    pub(crate) fn keep(&mut self, e: u32, kept: Entry)
         requires { e < length self.old }
         ensures { self.new ≡ slice_set self.old e kept }
     {

@@ -3,8 +3,9 @@ ghost use Rattle.std.specs.Prelude.{◌≡◌, ◌↔◌, ◌<◌, ℕ, Contains
 ghost use Rattle.exact_predicates.specs.Hull.{IsHullPair};
 ghost use Rattle.lmt_network.specs.Network.{edge_at, tri_at};
 ghost use Rattle.lmt_network.specs.Numbers.{HasSide, IsHullNumber, IsNumberOf};
-ghost use Rattle.price_ascent.specs.Belonging.{BelongTo, IsAnchor};
-ghost use Rattle.price_ascent.specs.Entries.{entry};
+ghost use Rattle.lmt_network.specs.Prices.{IsFeasible};
+ghost use Rattle.price_ascent.specs.Belonging.{AreEntriesOf, IsHullAnchor, IsSideAnchor};
+ghost use Rattle.price_ascent.specs.Entries.{entry, prices_of};
 ghost use Rattle.price_ascent.specs.Steps.{AreShares, IsRaisedEntry, IsSlack, hull_raised, left_raised, right_raised};
 
 use crate::entry::Entry;
@@ -15,43 +16,43 @@ use lmt_network::Network;
 impl Prices {
     // Raises the anchor of the hull's pair u to v.
     pub(crate) fn raise_hull(&mut self, net: &Network, u: u32, v: u32)
-        requires belong { BelongTo net.now self.old }
+        requires entries { AreEntriesOf net.now self.old }
+        requires feasible { IsFeasible net.now.points net.now.hull (prices_of net.now self.old) }
         requires pair { IsHullPair net.now.hull u v }
-        ensures belong { BelongTo net.now self.new }
-        ensures raised { (e : ℕ) × IsNumberOf net.now u v e × IsRaisedEntry net.now self.old self.new e u v hull_raised }
+        ensures { (e : ℕ) × IsNumberOf net.now u v e × IsRaisedEntry net.now self.old self.new e u v hull_raised }
     {
         let e = number(net, u, v);
         let least = self.least_slack(net, side_row(net, e, u, v), u, v);
         let kept = self.at(e);
-        self.put(e, hull_raised(kept, least));
+        self.keep(e, hull_raised(kept, least));
     }
 
     // Raises the anchor of the edge's side from its lesser end to its greater.
     pub(crate) fn raise_left(&mut self, net: &Network, e: u32)
-        requires belong { BelongTo net.now self.old }
+        requires entries { AreEntriesOf net.now self.old }
+        requires feasible { IsFeasible net.now.points net.now.hull (prices_of net.now self.old) }
         requires e_in { e < length net.now.edges }
         requires anchored { (entry self.old e).anchored ≡ true }
-        ensures belong { BelongTo net.now self.new }
-        ensures raised { IsRaisedEntry net.now self.old self.new e (edge_at net.now e).a (edge_at net.now e).b left_raised }
+        ensures { IsRaisedEntry net.now self.old self.new e (edge_at net.now e).a (edge_at net.now e).b left_raised }
     {
         let edge = net.edge(e);
         let least = self.least_slack(net, net.left(e), edge.a, edge.b);
         let kept = self.at(e);
-        self.put(e, left_raised(kept, least));
+        self.keep(e, left_raised(kept, least));
     }
 
     // Raises the anchor of the edge's side from its greater end to its lesser.
     pub(crate) fn raise_right(&mut self, net: &Network, e: u32)
-        requires belong { BelongTo net.now self.old }
+        requires entries { AreEntriesOf net.now self.old }
+        requires feasible { IsFeasible net.now.points net.now.hull (prices_of net.now self.old) }
         requires e_in { e < length net.now.edges }
         requires anchored { (entry self.old e).anchored ≡ true }
-        ensures belong { BelongTo net.now self.new }
-        ensures raised { IsRaisedEntry net.now self.old self.new e (edge_at net.now e).b (edge_at net.now e).a right_raised }
+        ensures { IsRaisedEntry net.now self.old self.new e (edge_at net.now e).b (edge_at net.now e).a right_raised }
     {
         let edge = net.edge(e);
         let least = self.least_slack(net, net.right(e), edge.b, edge.a);
         let kept = self.at(e);
-        self.put(e, right_raised(kept, least));
+        self.keep(e, right_raised(kept, least));
     }
 }
 
@@ -64,7 +65,7 @@ fn side_row<'a>(net: &'a Network, e: u32, u: u32, v: u32) -> &'a [u32]
 }
 
 fn hull_raised(kept: Entry, m: i64) -> Entry
-    requires anchor { IsAnchor kept.value }
+    requires anchor { IsHullAnchor kept.value }
     requires shares { AreShares kept }
     requires m { IsSlack m }
     ensures { result ≡ hull_raised kept m }
@@ -78,7 +79,7 @@ fn hull_raised(kept: Entry, m: i64) -> Entry
 }
 
 fn left_raised(kept: Entry, m: i64) -> Entry
-    requires anchor { IsAnchor kept.left }
+    requires anchor { IsSideAnchor kept.left }
     requires shares { AreShares kept }
     requires m { IsSlack m }
     ensures { result ≡ left_raised kept m }
@@ -91,7 +92,7 @@ fn left_raised(kept: Entry, m: i64) -> Entry
 }
 
 fn right_raised(kept: Entry, m: i64) -> Entry
-    requires anchor { IsAnchor kept.right }
+    requires anchor { IsSideAnchor kept.right }
     requires shares { AreShares kept }
     requires m { IsSlack m }
     ensures { result ≡ right_raised kept m }

@@ -3,7 +3,7 @@ ghost use Rattle.std.specs.Prelude.{◌≡◌, ◌⊎◌, ◌↔◌, ◌<◌, �
 ghost use Rattle.lmt_network.specs.Network.{edge_at, tri_at};
 ghost use Rattle.lmt_network.specs.Numbers.{HasSide, IsNumberOf};
 ghost use Rattle.price_ascent.specs.Ascent.{IsLeastSlack};
-ghost use Rattle.price_ascent.specs.Belonging.{BelongTo};
+ghost use Rattle.price_ascent.specs.Belonging.{AreEntriesOf};
 ghost use Rattle.price_ascent.specs.Entries.{entry, prices_of};
 ghost use Rattle.price_ascent.specs.Steps.{AreSidesLive, slack_at};
 
@@ -13,7 +13,7 @@ use lmt_network::Network;
 impl Prices {
     // Whether the three sides of the triangle are live.
     pub(crate) fn is_live_triangle(&self, net: &Network, t: u32) -> bool
-        requires belong { BelongTo net.now self.now }
+        requires entries { AreEntriesOf net.now self.now }
         requires t_in { t < length net.now.tris }
         ensures { IsTrue result ↔ AreSidesLive net.now self.now t }
     {
@@ -23,7 +23,7 @@ impl Prices {
 
     // The slack of the live triangle.
     pub(crate) fn slack_of(&self, net: &Network, t: u32) -> i64
-        requires belong { BelongTo net.now self.now }
+        requires entries { AreEntriesOf net.now self.now }
         requires t_in { t < length net.now.tris }
         requires live { AreSidesLive net.now self.now t }
         ensures { result ≡ slack_at net.now self.now t }
@@ -38,7 +38,7 @@ impl Prices {
 
     // The least slack of the live triangles in the row of the side from u to v, and 0 where there is none.
     pub(crate) fn least_slack(&self, net: &Network, row: &[u32], u: u32, v: u32) -> i64
-        requires belong { BelongTo net.now self.now }
+        requires entries { AreEntriesOf net.now self.now }
         requires row { (t : ℕ) → Contains row.now t ↔ ((t < length net.now.tris) × HasSide (tri_at net.now t) u v) }
         ensures { IsLeastSlack net.now.points net.now.hull (prices_of net.now self.now) u v result }
     {

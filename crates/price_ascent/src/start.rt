@@ -74,7 +74,7 @@ impl Prices {
         ensures anchored { self.new ≡ slice_set self.old e (anchored (entry self.old e)) }
     {
         let kept = self.at(e);
-        self.put(e, anchored(kept));
+        self.keep(e, anchored(kept));
     }
 }
 

@@ -9,6 +9,6 @@ returns c =
     let y1 = c.requires.anchor.1 in
     let m0 = c.requires.m.0 in
     let m1 = c.requires.m.1 in
-    let up_low = c.requires.shares.up_low in
-    let up_high = c.requires.shares.up_high in
+    let up_low = c.requires.shares.up.0 in
+    let up_high = c.requires.shares.up.1 in
     same_entry _ _ (omega (arith, ints)) (omega (arith, ints, y0, y1, m0, m1)) (omega (arith, ints)) (omega (arith, ints, up_low, up_high, m0, m1)) (omega (arith, ints)) refl refl

@@ -39,4 +39,4 @@ returns c =
     let es = c.args.self.now in
     let is : to_z w64 (of_z w64 c.unwrap_or.result) ≡ unwrap_or c.loop-t.least (pos 0) = let h = c.unwrap_or.ensures in omega (arith, ints, h) in
     subst (IsLeastSlack n.points n.hull (prices_of n es) c.args.u c.args.v) (sym is)
-    (least_all n es c.args.row.now c.args.u c.args.v c.loop-t.t-index c.loop-t.least c.requires.belong c.requires.row c.loop-t-test.false c.loop-t.auto.t-index-end c.loop-t.invariant)
+    (least_all n es c.args.row.now c.args.u c.args.v c.loop-t.t-index c.loop-t.least c.requires.entries c.requires.row c.loop-t-test.false c.loop-t.auto.t-index-end c.loop-t.invariant)

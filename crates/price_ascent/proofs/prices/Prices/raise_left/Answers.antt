@@ -1,14 +1,13 @@
-use Rattle.std.proofs.Common.{◌≡◌, ◌↔◌, ℕ, ◌<◌, length, set, Contains, of_z, to_z, w64, refl, ap, sym, ◌∙◌, subst}
+use Rattle.std.proofs.Common.{◌≡◌, ◌↔◌, ℕ, ◌<◌, length, set, Contains, of_z, to_z, w64, ap, sym, ◌∙◌, subst}
 use Rattle.exact_predicates.specs.declared.edge.Edge.{Edge}
-use Rattle.lmt_network.specs.Network.{edge_at, tri_at}
+use Rattle.lmt_network.specs.Network.{tri_at}
 use Rattle.lmt_network.specs.Numbers.{HasSide}
 use Rattle.price_ascent.specs.declared.entry.Entry.{Entry}
 use Rattle.price_ascent.specs.Ascent.{IsLeastSlack}
-use Rattle.price_ascent.specs.Belonging.{IsAnchor}
+use Rattle.price_ascent.specs.Belonging.{IsSideAnchor}
 use Rattle.price_ascent.specs.Entries.{entry, prices_of}
-use Rattle.price_ascent.specs.Steps.{AreShares, IsRaisedEntry, IsSlack, left_raised}
+use Rattle.price_ascent.specs.Steps.{AreShares, IsSlack, left_raised}
 use Rattle.price_ascent.proofs.Ends.{least_is}
-use Rattle.price_ascent.proofs.Raising.{left_belong}
 use Rattle.price_ascent.proofs.Shares.{shares_fit}
 use Rattle.price_ascent.proofs.SlackBounds.{least_fits}
 use Rattle.price_ascent.proofs.prices.Prices.raise_left.Goals as goal
@@ -20,37 +19,26 @@ least_slack-least-requires-clause-row c =
 
 pub left_raised-requires-clause-anchor : goal.left_raised-requires-clause-anchor
 left_raised-requires-clause-anchor c =
-    subst (λ (p : Entry). IsAnchor p.left) (sym c.at-kept.ensures) (c.requires.belong.each c.args.e c.requires.e_in).left
+    subst (λ (p : Entry). IsSideAnchor p.left) (sym c.at-kept.ensures) (c.requires.entries.each c.args.e c.requires.e_in).left
 
 pub left_raised-requires-clause-shares : goal.left_raised-requires-clause-shares
 left_raised-requires-clause-shares c =
-    let inner = (c.requires.belong.each c.args.e c.requires.e_in).inner c.requires.anchored in
-    subst AreShares (sym c.at-kept.ensures) (shares_fit c.args.net.now c.args.self.now c.args.e c.requires.belong c.requires.e_in inner.0)
+    let inner = (c.requires.entries.each c.args.e c.requires.e_in).inner c.requires.anchored in
+    subst AreShares (sym c.at-kept.ensures) (shares_fit c.args.net.now c.args.self.now c.args.e c.requires.entries c.requires.e_in inner.0)
 
 pub left_raised-requires-clause-m : goal.left_raised-requires-clause-m
 left_raised-requires-clause-m c =
-    let fits = least_fits c.args.net.now c.args.self.now _ _ c.least_slack-least.result c.requires.belong c.least_slack-least.ensures in
+    let fits = least_fits c.args.net.now c.args.self.now _ _ c.least_slack-least.result c.requires.entries c.requires.feasible c.least_slack-least.ensures in
     subst IsSlack (sym (least_is c.least_slack-least.result fits)) fits
 
--- the anchor has been raised
-raise : (c : goal.After-put) → IsRaisedEntry c.args.net.now c.args.self.now c.put.new.self c.args.e (edge_at c.args.net.now c.args.e).a (edge_at c.args.net.now c.args.e).b left_raised
-raise c =
+pub returns : goal.returns
+returns c =
     let m = c.least_slack-least.result in
     let p = entry c.args.self.now c.args.e in
-    let fits = least_fits c.args.net.now c.args.self.now _ _ m c.requires.belong c.least_slack-least.ensures in
+    let fits = least_fits c.args.net.now c.args.self.now _ _ m c.requires.entries c.requires.feasible c.least_slack-least.ensures in
     let is : c.left_raised.result ≡ left_raised p m = c.left_raised.ensures ∙ (ap (λ (q : Entry). left_raised q (to_z w64 (of_z w64 m))) c.at-kept.ensures ∙ ap (left_raised p) (least_is m fits)) in
     record {
       m = m;
       least = subst (λ (x : Edge). IsLeastSlack c.args.net.now.points c.args.net.now.hull (prices_of c.args.net.now c.args.self.now) x.a x.b m) c.edge-edge.ensures.value c.least_slack-least.ensures;
-      entry_is = c.put.ensures ∙ ap (set c.args.self.now c.args.e) is;
+      entry_is = c.keep.ensures ∙ ap (set c.args.self.now c.args.e) is;
     }
-
-pub returns-clause-belong : goal.returns-clause-belong
-returns-clause-belong c =
-    let r = raise c in
-    let inner = (c.requires.belong.each c.args.e c.requires.e_in).inner c.requires.anchored in
-    left_belong c.args.net.now c.args.self.now c.put.new.self c.args.e r.m
-    (record { belong = c.requires.belong; e_in = c.requires.e_in; is = r.entry_is; live = refl }) inner.0 c.requires.anchored inner.1 r.least
-
-pub returns-clause-raised : goal.returns-clause-raised
-returns-clause-raised c = raise c

@@ -20,7 +20,7 @@ raise_hull-requires-clause-pair c =
     (pair_of_place h (slice_index h i) c.if-i-hull.next i c.loop-i-test.true refl next)
 
 pub loop-i-init : goal.loop-i-init
-loop-i-init c = none_raised c.args.net.now c.args.self.now (ring_pairs c.args.net.now.hull) c.requires.belong
+loop-i-init c = none_raised c.args.net.now c.args.self.now (ring_pairs c.args.net.now.hull) c.requires.entries c.requires.feasible
 
 pub loop-i-preserved : goal.loop-i-preserved
 loop-i-preserved c =
@@ -36,10 +36,10 @@ loop-i-preserved c =
     let pair = subst (λ (xs : List ℕ). IsHullPair xs u v) c.hull-hull.ensures.value (pair_of_place h u v i c.loop-i-test.true refl next) in
     let rest = subst (λ (xs : List ℕ). drop i (ring_pairs xs) ≡ (u, v) ∷ drop (i + 1) (ring_pairs xs)) c.hull-hull.ensures.value (next_pair h i v c.loop-i-test.true next) in
     let sides = ring_pairs n.hull in
-    let r = c.raise_hull.ensures.raised in
+    let r = c.raise_hull.ensures in
     more_raised n c.args.self.now c.loop-i.self c.raise_hull.new.self sides (drop (i + 1) sides) u v
     (subst (λ (xs : List (ℕ × ℕ)). AreRaised n c.args.self.now c.loop-i.self sides xs) rest c.loop-i.invariant)
-    (hull_raised-one n c.loop-i.self c.raise_hull.new.self r.0 u v c.loop-i.invariant.belong c.raise_hull.ensures.belong r.1 pair r.2)
+    (hull_raised-one n c.loop-i.self c.raise_hull.new.self r.0 u v c.loop-i.invariant.entries c.loop-i.invariant.feasible r.1 pair r.2)
 
 pub returns : goal.returns
 returns c =

@@ -10,6 +10,20 @@ use Rattle.price_ascent.proofs.Sides.{anchored-at, sides_from-more, sides_from-n
 use Rattle.price_ascent.proofs.prices.Prices.tighten_inner.Goals as goal
 use Rattle.price_ascent.proofs.prices.Prices.tighten_inner.Goals.{then-at, else-at}
 
+pub raise_right-requires-clause-entries : goal.raise_right-requires-clause-entries
+raise_right-requires-clause-entries c =
+    let inv = c.loop-e.invariant in
+    let e_in : c.loop-e.e < length c.args.net.now.edges = let l = c.loop-e-test.true in let is = c.edges-e-end.ensures.value in omega (arith, l, is) in
+    let flag = sym (ap (λ (p : Entry). p.anchored) c.at.ensures) ∙ c.if-at.true in
+    (left_raised-one c.args.net.now c.loop-e.self c.raise_left.new.self c.loop-e.e inv.entries inv.feasible e_in flag c.raise_left.ensures).entries
+
+pub raise_right-requires-clause-feasible : goal.raise_right-requires-clause-feasible
+raise_right-requires-clause-feasible c =
+    let inv = c.loop-e.invariant in
+    let e_in : c.loop-e.e < length c.args.net.now.edges = let l = c.loop-e-test.true in let is = c.edges-e-end.ensures.value in omega (arith, l, is) in
+    let flag = sym (ap (λ (p : Entry). p.anchored) c.at.ensures) ∙ c.if-at.true in
+    (left_raised-one c.args.net.now c.loop-e.self c.raise_left.new.self c.loop-e.e inv.entries inv.feasible e_in flag c.raise_left.ensures).risen.feasible
+
 pub loop-e-preserved : goal.loop-e-preserved
 loop-e-preserved c =
     let n = c.args.net.now in
@@ -19,7 +33,7 @@ loop-e-preserved c =
     let sides = flat_map both_sides (anchored_edges n es) in
     let a = (edge_at n e).a in
     let b = (edge_at n e).b in
-    let one_each = c.requires.belong.one_each in
+    let one_each = c.requires.entries.one_each in
     let e_in : e < length n.edges = let l = c.loop-e-test.true in let is = c.edges-e-end.ensures.value in omega (arith, l, is) in
     let is = ap (λ (p : Entry). p.anchored) c.at.ensures in
     elim c.if-at.branch [
@@ -30,10 +44,10 @@ loop-e-preserved c =
           let flag_es : (entry es e).anchored ≡ true = sym (anchored-at fs es e c.loop-e.invariant.anchored) ∙ flag in
           let one = more_raised n es fs gs sides ((b, a) ∷ sides_from n es (e + 1)) a b
           (subst (λ (xs : List (ℕ × ℕ)). AreRaised n es fs sides xs) (sides_from-more n es e one_each e_in flag_es) c.loop-e.invariant)
-          (left_raised-one n fs gs e c.loop-e.invariant.belong w.raise_left.ensures.belong e_in flag w.raise_left.ensures.raised) in
+          (left_raised-one n fs gs e c.loop-e.invariant.entries c.loop-e.invariant.feasible e_in flag w.raise_left.ensures) in
           let flag_gs : (entry gs e).anchored ≡ true = anchored-at gs es e one.anchored ∙ flag_es in
           let two = more_raised n es gs hs sides (sides_from n es (e + 1)) b a one
-          (right_raised-one n gs hs e one.belong w.raise_right.ensures.belong e_in flag_gs w.raise_right.ensures.raised) in
+          (right_raised-one n gs hs e one.entries one.feasible e_in flag_gs w.raise_right.ensures) in
           subst (λ (xs : List Entry). AreRaised n es xs sides (sides_from n es (e + 1))) (sym w.self-is) two
       | else-at w ↦
           let flag_es = sym (anchored-at fs es e c.loop-e.invariant.anchored) ∙ (sym is ∙ w.if-at.false) in
