@@ -1,0 +1,16 @@
+pub mod Chosen
+pub mod Cuts
+pub mod Decomposition
+pub mod FaceEnds
+pub mod FaceRule
+pub mod Known
+pub mod OneOptimum
+pub mod Optimum
+pub mod Orders
+pub mod Parts
+pub mod Places
+pub mod Priced
+pub mod Rims
+pub mod SeatTables
+pub mod Seats
+pub mod Sites
