@@ -1,9 +1,9 @@
 -- What the flags of the last state say.
-use Rattle.std.proofs.Common.{◌≡◌, ◌≢◌, ◌⊎◌, ℕ, zero, suc, ◌+◌, ◌<◌, ◌≤◌, Bool, true, false, eqb, List, [], ◌∷◌, length, get_or, set, All, Contains, sym, ◌∙◌, subst, arith, eq-eqb, ne_eqb, length-set, get_or-set_other, get_or-set_same}
+use Rattle.std.proofs.Common.{◌≡◌, ◌≢◌, ◌⊎◌, ℕ, ◌+◌, ◌<◌, ◌≤◌, Bool, true, false, eqb, List, length, get_or, set, All, Contains, sym, ◌∙◌, subst, arith, eq-eqb, ne_eqb, length-set, get_or-set_other, get_or-set_same}
 use Rattle.std.proofs.lemmas.Bool.{false≢true}
 use Rattle.std.proofs.lemmas.List.Elements.{All-contains}
 use mathlib.Core.Logic.{dite}
-use mathlib.Core.Option.{some, some-injective, some-ne-none}
+use mathlib.Core.Option.{some}
 use native.Mathlib.Decide.{ℕ_discrete}
 use lib.ListN.{get_elem?}
 use Rattle.atomic_table.specs.Table.{State}
@@ -15,6 +15,7 @@ use Rattle.edge_marks.specs.declared.view.Known.{Known}
 use Rattle.edge_marks.specs.declared.view.About.{About}
 use Rattle.edge_marks.specs.Words.{mark_of}
 use Rattle.edge_marks.specs.Rule.{unkilled, MarksHold}
+use Rattle.edge_marks.specs.Handles.{AreFlagsOf}
 use Rattle.edge_marks.proofs.Kept.{net}
 use Rattle.edge_marks.proofs.Views.{contains_unkilled, unkilled_contains}
 
@@ -45,12 +46,6 @@ one_stays n ws flags e b so low is dark = (
   λ j lo hi. so.2 j (omega arith) hi,
 )
 
--- the value of a word
-pub word_at : (ws : List ℕ) (i x : ℕ) → get_elem? ws i ≡ some x → get_or ws i 0 ≡ x
-word_at [] i x h = absurd (some-ne-none x (sym h))
-word_at (w ∷ ws) zero x h = some-injective w x h
-word_at (w ∷ ws) (suc i) x h = word_at ws i x h
-
 module _ (k : About) (s : State ℕ Known) (r : MarksHold k s) (flags : List Bool) (wide : length flags ≡ length k.net.value.edges) (shows : FlagsShow (length k.net.value.edges) s.words flags) where
   -- a member of closed edges stays live
   pub closed_stay : (es : List ℕ) → AreClosed (net k) es → All (Contains (live_numbers flags)) es
@@ -64,9 +59,22 @@ module _ (k : About) (s : State ℕ Known) (r : MarksHold k s) (flags : List Boo
   pub seen_fall : (id : ℕ) (d : Known) → get_elem? s.views id ≡ some d → (e : ℕ) → Contains d.seen e → get_or flags e false ≡ false
   seen_fall id d at e has = let t = (r.each id d at).seen_killed e has in let t₁ = t.1 in shows e t.0 ∙ ne_eqb (mark_of s.words e) 0 (λ z. omega arith)
 
+  -- an edge whose flag is live is not killed
+  unkilled_flagged : (e : ℕ) → e < length k.net.value.edges → get_or flags e false ≡ true → mark_of s.words e ≡ 0
+  unkilled_flagged e low on = dite (ℕ_discrete (mark_of s.words e) 0) (λ z. z) (λ z. absurd (false≢true (sym (shows e low ∙ ne_eqb (mark_of s.words e) 0 z) ∙ on)))
+
+  -- so the flags are those of the state
+  pub flags_of : AreFlagsOf (net k) s flags
+  flags_of = record {
+    live = λ e low. (unkilled_flagged e low, λ z. shows e low ∙ eq-eqb (mark_of s.words e) 0 z);
+    tried = λ e low off. r.killed_tried e low (dite (ℕ_discrete (mark_of s.words e) 0)
+        (λ z. absurd (false≢true (sym off ∙ (shows e low ∙ eq-eqb (mark_of s.words e) 0 z))))
+        (λ z. omega arith));
+  }
+
   flag_unkilled : (e : ℕ) → Contains (live_numbers flags) e → Contains (unkilled (length (net k).edges) s.words) e
   flag_unkilled e has = let on = flag_from_live flags e has in let low : e < length (net k).edges = subst (λ (n : ℕ). e < n) wide (flag_in flags e on) in
-      contains_unkilled (length (net k).edges) s.words e low (dite (ℕ_discrete (mark_of s.words e) 0) (λ z. z) (λ z. absurd (false≢true (sym (shows e low ∙ ne_eqb (mark_of s.words e) 0 z) ∙ on))))
+      contains_unkilled (length (net k).edges) s.words e low (unkilled_flagged e low on)
 
   unkilled_flag : (e : ℕ) → Contains (unkilled (length (net k).edges) s.words) e → Contains (live_numbers flags) e
   unkilled_flag e has = let t = unkilled_contains (length (net k).edges) s.words e has in live_from_flag flags e (shows e t.0 ∙ eq-eqb (mark_of s.words e) 0 t.1)

@@ -10,6 +10,7 @@ use Rattle.edge_marks.specs.declared.view.Known.{Known}
 use Rattle.edge_marks.specs.declared.answer.Found.{Found}
 use Rattle.edge_marks.specs.declared.answer.Found.TheVariants.{Supported, Unsupported}
 use Rattle.edge_marks.specs.Told.{Asked, looked_all, FoundLive, AskForSidesOf, AskForSides, HasLiveSides, HasKilledSide, IsLivePair, IsBrokenWith, FoundBy}
+use Rattle.edge_marks.proofs.Members.{any_more}
 use Rattle.edge_marks.proofs.Loads.{looked_on, seen_kept, live_front, live_back}
 
 -- each of the three sides that the network m gives is a side
@@ -48,7 +49,7 @@ killed_kept : (n : NetworkParts) (e t : ℕ) (ls : List Asked) (old new : Known)
 killed_kept n e t ls old new is h = (h.0, h.1, h.2, subst (λ (d : Known). Contains d.seen h.0) (sym is) (seen_kept ls old h.0 h.3))
 
 any_kept : (n : NetworkParts) (e l r : ℕ) (ls : List Asked) (old new : Known) → new ≡ looked_all ls old → Any (IsOtherSide n e l r) old.seen → Any (IsOtherSide n e l r) new.seen
-any_kept n e l r ls old new is h = let k : Contains new.seen h.1 = subst (λ (d : Known). Contains d.seen h.1) (sym is) (seen_kept ls old h.1 (h.0, h.2, h.3)) in (k.0, h.1, k.1, k.2, h.4)
+any_kept n e l r ls old new is h = any_more (IsOtherSide n e l r) old.seen new.seen (λ f has. subst (λ (d : Known). Contains d.seen f) (sym is) (seen_kept ls old f has)) h
 
 -- the loads so far, for sides of t of which the first k have passed
 abbrev pub SidesPassed : NetworkParts → ℕ → ℕ → List ℕ → Known → Known → ℕ → Type 0

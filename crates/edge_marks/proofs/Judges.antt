@@ -1,5 +1,5 @@
 -- What the loads of a pass judge.
-use Rattle.std.proofs.Common.{◌≡◌, ◌⊎◌, ℕ, ◌+◌, ◌<◌, Bool, true, false, cond, ◌||◌, map, List, [], ◌∷◌, ◌++◌, Contains, sym, refl, ap, ◌∙◌, subst, inl, inr, ⊎_elim, arith, eq-eqb}
+use Rattle.std.proofs.Common.{◌≡◌, ◌⊎◌, ℕ, ◌+◌, ◌≤◌, Bool, true, false, cond, ◌||◌, map, List, [], ◌∷◌, ◌++◌, length, Contains, sym, refl, ap, ◌∙◌, subst, inl, inr, ⊎_elim, arith, eq-eqb}
 use Rattle.std.proofs.lemmas.List.Elements.{Contains-append_left, Contains-append_right}
 use mathlib.Core.Logic.{dite}
 use native.Mathlib.Decide.{ℕ_discrete}
@@ -12,14 +12,14 @@ use Rattle.edge_marks.specs.declared.view.Pass.TheVariants.{NoPass, InPass}
 use Rattle.edge_marks.specs.declared.view.Known.{Known}
 use Rattle.edge_marks.specs.Rule.{WasLive, WasKilled, HadSupport, IsJudged}
 use Rattle.edge_marks.specs.Plays.{has_begun_with, settled_view}
-use Rattle.edge_marks.specs.Told.{Asked, asked, looked_all, FoundLive, FoundKilled, IsLivePair, WasJudged, entered}
+use Rattle.edge_marks.specs.Told.{Asked, asked, looked_all, FoundLive, FoundKilled, IsLivePair, WasJudged, WereJudged, entered}
 use Rattle.edge_marks.proofs.Loads.{looked_on, pass_kept, word_loaded}
 
 abbrev LiveSupport : NetworkParts → List Asked → ℕ → Type 0
 LiveSupport n ls e = (l : ℕ) × (r : ℕ) × IsLivePair n e l r ls
 
 -- what more loads leave of a judgement
-judged_more : (n : NetworkParts) (xs ys : List Asked) (e : ℕ) → ((l : Asked) → Contains xs l → Contains ys l) → WasJudged n xs e → WasJudged n ys e
+pub judged_more : (n : NetworkParts) (xs ys : List Asked) (e : ℕ) → ((l : Asked) → Contains xs l → Contains ys l) → WasJudged n xs e → WasJudged n ys e
 judged_more n xs ys e more j = ⊎_elim
     (λ (h : IsHullNumber n e). inl h)
     (λ (b : FoundKilled xs e ⊎ LiveSupport n xs e). ⊎_elim
@@ -30,7 +30,11 @@ judged_more n xs ys e more j = ⊎_elim
 
 -- the loads so far have judged the edges below e
 abbrev pub Passed : NetworkParts → Known → Known → ℕ → Type 0
-Passed n old new e = (ls : List Asked) × (new ≡ looked_all ls old) × ((j : ℕ) → j < e → WasJudged n ls j)
+Passed n old new e = (ls : List Asked) × (new ≡ looked_all ls old) × WereJudged n ls e
+
+-- a loop over the edges of m that has come to its end has judged all edges
+pub all_judged : (n m : NetworkParts) (ls : List Asked) (end k : ℕ) → m ≡ n → end ≡ length m.edges → end ≤ k → WereJudged n ls k → WereJudged n ls (length n.edges)
+all_judged n m ls end k same is done each e low = each e (let wide = ap (λ (z : NetworkParts). length z.edges) same in omega arith)
 
 pub one_judged : (n : NetworkParts) (old mid new : Known) (e : ℕ) → Passed n old mid e → (ls : List Asked) → new ≡ looked_all ls mid → WasJudged n ls e → Passed n old new (e + 1)
 one_judged n old mid new e so ls is here = (

@@ -1,5 +1,5 @@
 -- The three steps of a kill keep the rule.
-use Rattle.std.proofs.Common.{◌≡◌, ◌≢◌, ℕ, ◌+◌, ◌*◌, ◌/◌, ◌%◌, ◌^◌, ◌<◌, ◌≤◌, List, [], ◌∷◌, length, get_or, set, Contains, sym, refl, ap, ◌∙◌, subst, ⊎_elim, arith, bit_or, length-set, get_or-set_other, get_or-set_same}
+use Rattle.std.proofs.Common.{◌≡◌, ◌≢◌, ℕ, ◌+◌, ◌*◌, ◌/◌, ◌%◌, ◌^◌, ◌<◌, ◌≤◌, List, [], ◌∷◌, length, get_or, set, Contains, sym, refl, ap, ◌∙◌, subst, inl, inr, ⊎_elim, arith, bit_or, length-set, get_or-set_other, get_or-set_same}
 use mathlib.Core.Logic.{dite}
 use mathlib.Core.Option.{none}
 use native.Mathlib.Decide.{ℕ_discrete}
@@ -7,7 +7,7 @@ use Rattle.atomic_table.specs.Table.{State, step, keeps, Allows}
 use Rattle.lmt_network.specs.Network.{NetworkParts}
 use Rattle.lmt_network.specs.Numbers.{IsHullNumber, IsDead, IsBroken}
 use Rattle.lmt_network.proofs.NumberLaws.{dead_if_broken}
-use Rattle.lmt_network.proofs.Picked.{Contains-here, Contains-cases}
+use Rattle.lmt_network.proofs.Picked.{Contains-here, Contains-later, Contains-cases}
 use Rattle.edge_marks.specs.declared.view.Phase.{Phase}
 use Rattle.edge_marks.specs.declared.view.Phase.TheVariants.{Idle, Begun, Marked}
 use Rattle.edge_marks.specs.declared.view.Known.{Known}
@@ -36,12 +36,14 @@ module _ (k : About) where
       let mark : Counts n ws ws' = λ f l. ap (λ (y : ℕ). bit_in y f) (same (f / 64) (λ z. omega arith)) in
       let others : (v : Known) → ViewHolds n ws v → ViewHolds n ws' v = λ v. view_words n ws ws' v (omega arith) (λ f l p. let m = mark f (omega arith) in omega arith) (λ b b_le is _. omega arith)
       (λ _. live_words n ws ws' (λ f l z. mark f (omega arith) ∙ z) (λ f l z. sym (mark f (omega arith)) ∙ z)) in
-      let base = others d h in let dead = dead_if_broken n d.seen e inner broken (λ f has. let t = h.seen_killed f has in r.safe f t.0 t.1) in let zero_busy : is_busy d ≡ 0 = ap busy idle in
+      let base = others d h in let zero_busy : is_busy d ≡ 0 = ap busy idle in
       let s' : State ℕ Known = record { words = ws'; homes = s.homes; views = set s.views id w } in
       let kept : MarksHold k s' = moved k s r id d w at ws' record {
         wide = length-set ws W (x + 1);
         safe = λ f l p. r.safe f l (let m = mark f (omega arith) in omega arith);
         spare = λ f l m. mark f m ∙ r.spare f l m;
+        killed = λ f l p. inl (let m = mark f (omega arith) in omega arith);
+        tried = λ f has. Contains-later e f d.tried has;
         others = others;
         mine = record {
           net_is = h.net_is;
@@ -52,7 +54,7 @@ module _ (k : About) where
               (λ (t : Contains d.tried f). base.tried_killed f t (λ z. absurd (let g : Idle ≡ Begun f = sym idle ∙ z in cc)))
               (Contains-cases e f d.tried has);
           tried_once = distinct_more e d.tried new h.tried_once;
-          aim = (low, inner, dead, Contains-here e d.tried);
+          aim = (low, inner, broken, Contains-here e d.tried);
           in_pass = tt;
           quiet = base.quiet;
           low_is = let g : x + 1 ≤ get_or ws' W 0 = omega arith in g;
@@ -70,7 +72,8 @@ module _ (k : About) where
 
   pub marks : (slots id : ℕ) (me : Sitting) (e : ℕ) → me.0.phase ≡ Begun e → Allows (MarksHold k) slots id me (e / 64) (λ x. bit_or x (2 ^ (e % 64))) (marked (step slots (e / 64) (2 ^ (e % 64)) 0 none) me)
   marks slots id me e is s r _ at fits = let n : NetworkParts = net k in let ws : List ℕ = s.words in let E : ℕ = length n.edges in let i : ℕ = e / 64 in let x : ℕ = get_or ws i 0 in let d : Known = me.0 in let h = r.each id d at in
-      let w : Known = marked_view e x d in let y : ℕ = bit_or x (2 ^ (e % 64)) in let ws' : List ℕ = marked_words ws e in let wide = r.wide in let aims : IsAim n d.tried e = subst (PhaseHolds n ws d.tried) is h.aim in let low = aims.0 in
+      let w : Known = marked_view e x d in let y : ℕ = bit_or x (2 ^ (e % 64)) in let ws' : List ℕ = marked_words ws e in let wide = r.wide in let aims : IsAim n d.seen d.tried e = subst (PhaseHolds n ws d.seen d.tried) is h.aim in let low = aims.0 in
+      let dead = dead_if_broken n d.seen e aims.1 aims.2 (λ f has. let t = h.seen_killed f has in r.safe f t.0 t.1) in
       let same : (j : ℕ) → j ≢ e → mark_of ws' j ≡ mark_of ws j = λ j ne. mark_else ws e j (omega arith) ne in
       let now : mark_of ws' e ≡ 1 = mark_here ws e (omega arith) in let lit : 0 < mark_of ws' e = omega arith in
       let now₀ : get_or ws' (E / 64 + 16) 0 ≡ get_or ws (E / 64 + 16) 0 = get_or-set_other ws i (E / 64 + 16) y 0 (λ z. omega arith) in
@@ -79,7 +82,7 @@ module _ (k : About) where
       let one : is_busy d ≡ 1 = ap busy is in let gap = in_kill k s r id d at one in
       let others : (v : Known) → ViewHolds n ws v → ViewHolds n ws' v = λ v. view_words n ws ws' v (omega arith) kept (λ b b_le h imp. let z = imp (omega arith) in omega arith)
       (λ _ live. live_words n ws ws'
-      (λ f l z. dite (ℕ_discrete f e) (λ q. absurd (aims.2 (unkilled E ws) live.closed (contains_unkilled E ws e low (ap (λ (j : ℕ). mark_of ws j) (sym q) ∙ z)))) (λ q. same f q ∙ z))
+      (λ f l z. dite (ℕ_discrete f e) (λ q. absurd (dead (unkilled E ws) live.closed (contains_unkilled E ws e low (ap (λ (j : ℕ). mark_of ws j) (sym q) ∙ z)))) (λ q. same f q ∙ z))
       (λ f l z. dite (ℕ_discrete f e) (λ q. absurd (let z' : mark_of ws' e ≡ 0 = ap (λ (j : ℕ). mark_of ws' j) (sym q) ∙ z in omega arith)) (λ q. sym (same f q) ∙ z)) live) in
       let base = others d h in (
         w,
@@ -87,8 +90,10 @@ module _ (k : About) where
         tt,
         moved k s r id d w at ws' record {
           wide = length-set ws i y;
-          safe = λ f l p. dite (ℕ_discrete f e) (λ q. subst (IsDead n) (sym q) aims.2) (λ q. r.safe f l (let m = same f q in omega arith));
+          safe = λ f l p. dite (ℕ_discrete f e) (λ q. subst (IsDead n) (sym q) dead) (λ q. r.safe f l (let m = same f q in omega arith));
           spare = λ f l m. same f (λ q. omega arith) ∙ r.spare f l m;
+          killed = λ f l p. dite (ℕ_discrete f e) (λ q. inr (subst (Contains d.tried) (sym q) aims.3)) (λ q. inl (let m = same f q in omega arith));
+          tried = λ f has. has;
           others = others;
           mine = record {
             net_is = h.net_is;
@@ -116,7 +121,7 @@ module _ (k : About) where
   pub finishes : (slots id : ℕ) (me : Sitting) (e : ℕ) → me.0.phase ≡ Marked e
       → Allows (MarksHold k) slots id me (length k.net.value.edges / 64 + 32) (λ x. (x + 1) % 2 ^ 64) (ended (step slots (length k.net.value.edges / 64 + 32) 1 0 none) me)
   finishes slots id me e is s r _ at fits = let n : NetworkParts = net k in let ws : List ℕ = s.words in let E : ℕ = length n.edges in let i : ℕ = E / 64 + 32 in let x : ℕ = get_or ws i 0 in let d : Known = me.0 in let h = r.each id d at in
-      let w : Known = ended_view i e x d in let small = begun_small k s r in let wide = r.wide in let aims : IsAim n d.tried e × (0 < mark_of ws e) = subst (PhaseHolds n ws d.tried) is h.aim in let low = aims.0.0 in
+      let w : Known = ended_view i e x d in let small = begun_small k s r in let wide = r.wide in let aims : IsAim n d.seen d.tried e × (0 < mark_of ws e) = subst (PhaseHolds n ws d.seen d.tried) is h.aim in let low = aims.0.0 in
       let one : is_busy d ≡ 1 = ap busy is in let gap = in_kill k s r id d at one in let up : x + 1 ≡ (x + 1) % 18446744073709551616 = omega arith in let ws' : List ℕ = set ws i (x + 1) in
       let same : (j : ℕ) → j ≢ i → get_or ws' j 0 ≡ get_or ws j 0 = λ j ne. get_or-set_other ws i j (x + 1) 0 ne in
       let now : get_or ws' i 0 ≡ x + 1 = get_or-set_same ws i (x + 1) 0 (omega arith) in
@@ -133,6 +138,8 @@ module _ (k : About) where
           wide = length-set ws i (x + 1);
           safe = λ f l p. r.safe f l (let m = mark f (omega arith) in omega arith);
           spare = λ f l m. mark f m ∙ r.spare f l m;
+          killed = λ f l p. inl (let m = mark f (omega arith) in omega arith);
+          tried = λ f has. has;
           others = others;
           mine = record {
             net_is = h.net_is;

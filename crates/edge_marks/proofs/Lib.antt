@@ -1,6 +1,7 @@
 pub mod Answering
 pub mod Apart
 pub mod At
+pub mod Blank
 pub mod Closes
 pub mod Examines
 pub mod Judges

@@ -16,7 +16,8 @@ use Rattle.edge_marks.specs.Words.{bit_in, mark_of}
 use Rattle.edge_marks.specs.Rule.{unkilled, loaded, PassHolds, MarksHold}
 use Rattle.edge_marks.specs.Plays.{Sitting, now_seen, now_loaded, looked_view, LookTells, looked}
 use Rattle.edge_marks.proofs.Members.{contains_cut}
-use Rattle.edge_marks.proofs.Views.{contains_unkilled, unkilled_contains}
+use Rattle.edge_marks.proofs.Loads.{seen_more}
+use Rattle.edge_marks.proofs.Views.{contains_unkilled, unkilled_contains, phase_seen}
 use Rattle.edge_marks.proofs.Kept.{net, load_kept}
 
 seen_now : (n : NetworkParts) (ws : List ℕ) (e b : ℕ) (seen : List ℕ) → e < length n.edges → mark_of ws e ≡ b → ((f : ℕ) → Contains seen f → (f < length n.edges) × (0 < mark_of ws f))
@@ -72,7 +73,7 @@ module _ (k : About) where
           tried_below = h.tried_below;
           tried_killed = h.tried_killed;
           tried_once = h.tried_once;
-          aim = h.aim;
+          aim = phase_seen n s.words d.seen (now_seen e b d.seen) d.tried d.phase (λ f has. seen_more e b f d.seen has) h.aim;
           in_pass = pass_loaded n s.words i x d.pass (omega arith) refl h.in_pass;
           quiet = h.quiet;
           low_is = h.low_is;

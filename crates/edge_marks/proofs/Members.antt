@@ -1,5 +1,5 @@
 -- Members of lists.
-use Rattle.std.proofs.Common.{◌≡◌, ◌≢◌, ◌⊎◌, ℕ, ◌<◌, ◌≤◌, Bool, true, cond, List, [], ◌∷◌, ◌++◌, length, get_or, All, AllPairs, Contains, sym, ap, ◌∙◌, subst, inl, inr, ⊎_elim, arith, eq-eqb, ne_eqb, length-append}
+use Rattle.std.proofs.Common.{◌≡◌, ◌≢◌, ◌⊎◌, ℕ, ◌<◌, ◌≤◌, Bool, true, cond, List, zero, suc, [], ◌∷◌, ◌++◌, length, get_or, set, All, Any, AllPairs, Contains, sym, ap, ◌∙◌, subst, inl, inr, ⊎_elim, arith, eq-eqb, ne_eqb, length-append, length-set, get_or-set_other, get_or-set_same}
 use Rattle.std.specs.List.{range_with_len}
 use Rattle.std.proofs.lemmas.Bool.{false≢true}
 use Rattle.std.proofs.lemmas.List.Elements.{Contains-append_left, Contains-append_right, Contains-append_cases}
@@ -8,7 +8,9 @@ use Rattle.std.proofs.lemmas.List.Kept.{AllPairs-cons}
 use Rattle.std.proofs.Math.ListN.{get_or-append}
 use Rattle.std.proofs.Math.Seq.{get_or-append_seam}
 use mathlib.Core.Logic.{dite}
+use mathlib.Core.Option.{some, some-injective, some-ne-none}
 use native.Mathlib.Decide.{ℕ_discrete}
+use lib.ListN.{get_elem?}
 use Rattle.exact_predicates.proofs.Few.{length-le_from_distinct}
 use Rattle.lmt_network.proofs.Picked.{Contains-here, Contains-later, Contains-cases, Contains-nil, All-from_members}
 use Rattle.edge_marks.specs.Handles.{has_number}
@@ -35,6 +37,22 @@ module _ {X : Type 0} where
   pub all_end : (P : X → Type 0) (l xs : List X) (a : X) → l ≡ xs ++ a ∷ [] → All P l → P a
   all_end P l xs a is all = let n = ap length is in let m = length-append xs (a ∷ []) in
       subst P (ap (λ (z : List X). get_or z (length xs) a) is ∙ get_or-append_seam xs a [] a) (all (length xs) a (omega arith))
+
+  -- the item at a place
+  pub item_at : (xs : List X) (i : ℕ) (d x : X) → get_elem? xs i ≡ some x → (i < length xs) × (get_or xs i d ≡ x)
+  item_at [] i d x h = absurd (some-ne-none x (sym h))
+  item_at (y ∷ ys) zero d x h = (omega arith, some-injective y x h)
+  item_at (y ∷ ys) (suc i) d x h = let t = item_at ys i d x h in let low = t.0 in (omega arith, t.1)
+
+  -- what is so of some item is so of some item of more
+  pub any_more : (P : X → Type 0) (xs ys : List X) → ((x : X) → Contains xs x → Contains ys x) → Any P xs → Any P ys
+  any_more P xs ys more h = let k = more h.1 (h.0, h.2, h.3) in (k.0, h.1, k.1, k.2, h.4)
+
+  -- a change of one item, of which it stays so
+  pub any_after : (P : X → Type 0) (xs : List X) (i : ℕ) (x y : X) → get_elem? xs i ≡ some x → (P x → P y) → Any P xs → Any P (set xs i y)
+  any_after P xs i x y at stays (k, z, low, is, h) = let here = item_at xs i z x at in let wide = length-set xs i y in dite (ℕ_discrete k i)
+      (λ (e : k ≡ i). let same : x ≡ z = sym here.1 ∙ (ap (λ (j : ℕ). get_or xs j z) (sym e) ∙ is) in let l = here.0 in (i, y, omega arith, get_or-set_same xs i y y here.0, stays (subst P (sym same) h)))
+      (λ other. (k, z, omega arith, get_or-set_other xs i k y z other ∙ is, h))
 
 -- distinct numbers with one more
 pub distinct_more : (x : ℕ) (xs : List ℕ) → ¬ Contains xs x → AllPairs (λ e f. e ≢ f) xs → AllPairs (λ e f. e ≢ f) (x ∷ xs)

@@ -1,5 +1,5 @@
 -- Opening the marks, splitting a seat and taking the notes keep the rule.
-use Rattle.std.proofs.Common.{◌≡◌, ◌≢◌, ℕ, zero, suc, ◌+◌, ◌*◌, ◌/◌, ◌%◌, ◌<◌, ◌≤◌, Bool, true, false, List, [], ◌∷◌, length, map, get_or, set, sym, refl, ap, ◌∙◌, subst, inl, inr, ⊎_elim, arith, length-set, length-append}
+use Rattle.std.proofs.Common.{◌≡◌, ◌≢◌, ℕ, zero, suc, ◌+◌, ◌*◌, ◌/◌, ◌%◌, ◌<◌, ◌≤◌, Bool, true, false, List, [], ◌∷◌, ◌++◌, length, map, get_or, set, Contains, sym, refl, ap, ◌∙◌, subst, inl, inr, ⊎_elim, arith, length-set, length-append}
 use Rattle.std.proofs.lemmas.Bool.{false≢true}
 use Rattle.std.proofs.lemmas.Nat.Bits.{bit_at-zero}
 use mathlib.Core.Option.{none, some, some-ne-none}
@@ -15,6 +15,7 @@ use Rattle.edge_marks.specs.declared.view.About.{About}
 use Rattle.edge_marks.specs.Words.{bit_in, mark_of}
 use Rattle.edge_marks.specs.Rule.{first_view, weight, ViewHolds, is_busy, tries, splits_of, MarksHold}
 use Rattle.edge_marks.specs.Plays.{Sitting, noted_view, took_note, left_view, right_view}
+use Rattle.edge_marks.proofs.Members.{any_after, any_more, contains_more}
 use Rattle.edge_marks.proofs.Apart.{AreApart, apart_set, apart_last}
 use Rattle.edge_marks.proofs.Kept.{net}
 use Rattle.edge_marks.proofs.Totals.{total_set, total_last}
@@ -44,6 +45,7 @@ module _ (k : About) where
         few = (few, small);
         safe = λ e low lit. absurd (let b = no_mark ws blank e in omega arith);
         spare = λ e _ _. no_mark ws blank e;
+        killed_tried = λ e low lit. absurd (let b = no_mark ws blank e in omega arith);
         each = λ j d h. subst (ViewHolds n ws) (one j d h) record {
           net_is = refl;
           seen_killed = λ e has. absurd (Contains-nil e has);
@@ -74,6 +76,7 @@ module _ (k : About) where
           few = r.few;
           safe = r.safe;
           spare = r.spare;
+          killed_tried = λ e low lit. any_after (λ (v : Known). Contains v.tried e) s.views id d w at (λ has. has) (r.killed_tried e low lit);
           each = λ j e h. ⊎_elim (λ (t : (j ≡ id) × (w ≡ e)). subst (ViewHolds n s.words) t.1 record {
             net_is = v.net_is;
             seen_killed = v.seen_killed;
@@ -108,6 +111,7 @@ module _ (k : About) where
     few = r.few;
     safe = r.safe;
     spare = r.spare;
+    killed_tried = λ e low lit. any_more (λ (v : Known). Contains v.tried e) vs (vs ++ o ∷ []) (λ v has. contains_more vs o v has) (any_after (λ (v : Known). Contains v.tried e) s.views id d w at (λ has. has) (r.killed_tried e low lit));
     each = λ j e h. ⊎_elim
         (λ (g : get_elem? vs j ≡ some e). ⊎_elim (λ (t : (j ≡ id) × (w ≡ e)). subst (ViewHolds n s.words) t.1 record {
           net_is = v.net_is;

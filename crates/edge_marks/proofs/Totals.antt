@@ -20,6 +20,12 @@ module _ (f : Known → ℕ) where
   total_at (x ∷ xs) zero v e = let is : f x ≡ f v = ap f (some-injective x v e) in omega arith
   total_at (x ∷ xs) (suc i) v e = let r = total_at xs i v e in omega arith
 
+  pub total_only : (l : List Known) (i : ℕ) (v : Known) → get_elem? l i ≡ some v → length l ≤ 1 → total f l ≡ f v
+  total_only [] i v e few = absurd (some-ne-none v (sym e))
+  total_only (x ∷ []) zero v e few = let is : f x ≡ f v = ap f (some-injective x v e) in omega arith
+  total_only (x ∷ []) (suc i) v e few = absurd (some-ne-none v (sym e))
+  total_only (x ∷ y ∷ ys) i v e few = absurd (omega arith)
+
   pub total_at_most : (n : ℕ) (l : List Known) → ((i : ℕ) (v : Known) → get_elem? l i ≡ some v → f v ≤ n) → total f l ≤ length l * n
   total_at_most n [] each = omega arith
   total_at_most n (x ∷ xs) each = let r = total_at_most n xs (λ i v e. each (suc i) v e) in let h = each 0 x refl in let m = suc-mul (length xs) n in omega arith

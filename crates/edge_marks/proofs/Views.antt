@@ -3,7 +3,7 @@ use Rattle.std.proofs.Common.{◌≡◌, ◌≢◌, ℕ, zero, suc, ◌<◌, ◌
 use mathlib.Core.Logic.{dite}
 use native.Mathlib.Decide.{ℕ_discrete}
 use Rattle.lmt_network.specs.Network.{NetworkParts}
-use Rattle.lmt_network.specs.Numbers.{AreLive}
+use Rattle.lmt_network.specs.Numbers.{AreLive, IsOtherSide}
 use Rattle.lmt_network.proofs.NumberLaws.{live_same}
 use Rattle.lmt_network.proofs.Picked.{Contains-nil}
 use Rattle.edge_marks.specs.declared.view.Phase.{Phase}
@@ -12,8 +12,8 @@ use Rattle.edge_marks.specs.declared.view.Pass.{Pass}
 use Rattle.edge_marks.specs.declared.view.Pass.TheVariants.{NoPass, AtFirst, InPass}
 use Rattle.edge_marks.specs.declared.view.Known.{Known}
 use Rattle.edge_marks.specs.Words.{mark_of}
-use Rattle.edge_marks.specs.Rule.{begun, finished, unkilled, PhaseHolds, PassHolds, ViewHolds}
-use Rattle.edge_marks.proofs.Members.{contains_last, contains_more, contains_cut}
+use Rattle.edge_marks.specs.Rule.{begun, finished, unkilled, IsAim, PhaseHolds, PassHolds, ViewHolds}
+use Rattle.edge_marks.proofs.Members.{any_more, contains_last, contains_more, contains_cut}
 
 unkilled_live : (k : ℕ) (ws : List ℕ) → mark_of ws k ≡ 0 → unkilled (suc k) ws ≡ unkilled k ws ++ k ∷ []
 unkilled_live k ws h = ap (λ (b : Bool). cond b (unkilled k ws ++ k ∷ []) (unkilled k ws)) (eq-eqb (mark_of ws k) 0 h)
@@ -40,10 +40,19 @@ pub live_words : (n : NetworkParts) (ws ws' : List ℕ) → ((e : ℕ) → e < l
 live_words n ws ws' to back live = live_same n (unkilled (length n.edges) ws) (unkilled (length n.edges) ws')
     (λ e h. let r = unkilled_contains (length n.edges) ws e h in contains_unkilled (length n.edges) ws' e r.0 (to e r.0 r.1)) (λ e h. let r = unkilled_contains (length n.edges) ws' e h in contains_unkilled (length n.edges) ws e r.0 (back e r.0 r.1)) live
 
-phase_words : (n : NetworkParts) (ws ws' tried : List ℕ) (p : Phase) → ((e : ℕ) → e < length n.edges → 0 < mark_of ws e → 0 < mark_of ws' e) → PhaseHolds n ws tried p → PhaseHolds n ws' tried p
-phase_words n ws ws' tried Idle kept ok = tt
-phase_words n ws ws' tried (Begun e) kept ok = ok
-phase_words n ws ws' tried (Marked e) kept ok = (ok.0, kept e ok.0.0 ok.1)
+phase_words : (n : NetworkParts) (ws ws' seen tried : List ℕ) (p : Phase) → ((e : ℕ) → e < length n.edges → 0 < mark_of ws e → 0 < mark_of ws' e) → PhaseHolds n ws seen tried p → PhaseHolds n ws' seen tried p
+phase_words n ws ws' seen tried Idle kept ok = tt
+phase_words n ws ws' seen tried (Begun e) kept ok = ok
+phase_words n ws ws' seen tried (Marked e) kept ok = (ok.0, kept e ok.0.0 ok.1)
+
+aim_seen : (n : NetworkParts) (xs ys tried : List ℕ) (e : ℕ) → ((f : ℕ) → Contains xs f → Contains ys f) → IsAim n xs tried e → IsAim n ys tried e
+aim_seen n xs ys tried e more ok = (ok.0, ok.1, (λ l r pair. any_more (IsOtherSide n e l r) xs ys more (ok.2 l r pair)), ok.3)
+
+-- a kill goes on where more edges were seen killed
+pub phase_seen : (n : NetworkParts) (ws xs ys tried : List ℕ) (p : Phase) → ((f : ℕ) → Contains xs f → Contains ys f) → PhaseHolds n ws xs tried p → PhaseHolds n ws ys tried p
+phase_seen n ws xs ys tried Idle more ok = tt
+phase_seen n ws xs ys tried (Begun e) more ok = aim_seen n xs ys tried e more ok
+phase_seen n ws xs ys tried (Marked e) more ok = (aim_seen n xs ys tried e more ok.0, ok.1)
 
 -- a pass goes on where it can no more end quiet
 pass_words : (n : NetworkParts) (ws ws' : List ℕ) (p : Pass) → begun n ws ≤ begun n ws' → ((b : ℕ) → b ≤ begun n ws → begun n ws' ≡ b → (begun n ws ≡ b → finished n ws ≡ b) → ⊥) → PassHolds n ws p → PassHolds n ws' p
@@ -60,7 +69,7 @@ view_words n ws ws' d up kept apart quiet ok = record {
   tried_below = ok.tried_below;
   tried_killed = λ e h not. kept e (ok.tried_below e h) (ok.tried_killed e h not);
   tried_once = ok.tried_once;
-  aim = phase_words n ws ws' d.tried d.phase kept ok.aim;
+  aim = phase_words n ws ws' d.seen d.tried d.phase kept ok.aim;
   in_pass = pass_words n ws ws' d.pass up apart ok.in_pass;
   quiet = λ h. quiet h (ok.quiet h);
   low_is = let l = ok.low_is in omega arith;

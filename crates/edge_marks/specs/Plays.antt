@@ -4,7 +4,7 @@
 --   a fetch-add of `begun` (`started`), and one of `finished` (`ended`);
 --   a load of `begun`, which opens a pass (`opened`) or ends it (`settled`), and one of `finished` (`read_finished`);
 --   a split, which makes a new seat (`left_view`, `right_view`).
--- Each step is written behind the seat's steps, with its word and the value found there. The one load with which a new seat
+-- Each step is written after the seat's steps, with its word and the value found there. The one load with which a new seat
 -- takes its note (`took_note`) is not, and of a split there is no value.
 use Rattle.std.specs.Prelude.{◌≡◌, ℕ, zero, suc, ◌+◌, ◌*◌, ◌/◌, ◌-◌, ◌<◌, ◌≤◌, Bool, true, false, eqb, cond, ◌||◌, List, [], ◌∷◌, ◌++◌, Contains}
 use Rattle.atomic_table.specs.Table.{Me, Step}

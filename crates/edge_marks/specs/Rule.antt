@@ -3,12 +3,12 @@
 -- seat's own steps change it, as `Plays` says. Beside its view each seat has a note, a slot of its own in which it writes
 -- the edge that its next step is for, where a step of a word cannot tell which. Notes stand at each 32nd slot, 128 bytes
 -- apart, so that seats write theirs without a cache line in common.
-use Rattle.std.specs.Prelude.{◌≡◌, ◌≢◌, ◌⊎◌, ℕ, zero, suc, ◌+◌, ◌*◌, ◌/◌, ◌-◌, ◌^◌, ◌<◌, ◌≤◌, Bool, true, false, eqb, cond, List, [], ◌∷◌, ◌++◌, length, slice_index, AllPairs, Contains}
+use Rattle.std.specs.Prelude.{◌≡◌, ◌≢◌, ◌⊎◌, ℕ, zero, suc, ◌+◌, ◌*◌, ◌/◌, ◌-◌, ◌^◌, ◌<◌, ◌≤◌, Bool, true, false, eqb, cond, List, [], ◌∷◌, ◌++◌, length, slice_index, AllPairs, Any, Contains}
 use mathlib.Core.Option.{some}
 use lib.ListN.{get_elem?}
 use Rattle.atomic_table.specs.Table.{State}
 use Rattle.lmt_network.specs.Network.{NetworkParts}
-use Rattle.lmt_network.specs.Numbers.{IsHullNumber, IsMinimalPair, IsOtherSide, AreLive, IsDead}
+use Rattle.lmt_network.specs.Numbers.{IsHullNumber, IsMinimalPair, IsOtherSide, AreLive, IsDead, IsBroken}
 use Rattle.edge_marks.specs.declared.view.Loaded.{Loaded}
 use Rattle.edge_marks.specs.declared.view.Phase.{Phase}
 use Rattle.edge_marks.specs.declared.view.Phase.TheVariants.{Idle, Begun, Marked}
@@ -26,6 +26,12 @@ begun n ws = slice_index ws (begun_word n)
 abbrev pub finished : NetworkParts → List ℕ → ℕ
 finished n ws = slice_index ws (finished_word n)
 
+-- No edge is killed, no kill has begun, and none has finished.
+pub record AreBlank (n : NetworkParts) (ws : List ℕ) : Type 0 where
+  pub live : (e : ℕ) → e < length n.edges → mark_of ws e ≡ 0
+  pub none_begun : begun n ws ≡ 0
+  pub none_finished : finished n ws ≡ 0
+
 -- the edges below k that are not killed, in their order
 abbrev pub unkilled : ℕ → List ℕ → List ℕ
 unkilled zero ws = []
@@ -38,15 +44,15 @@ first_known n seats = record { net = n; seen = []; tried = []; phase = Idle; pas
 abbrev pub first_view : About → Known
 first_view k = first_known k.net.value k.seats
 
--- the edge e is no hull edge, no closed edges have it, and it is among the edges tried
-abbrev pub IsAim : NetworkParts → List ℕ → ℕ → Type 0
-IsAim n tried e = (e < length n.edges) × (¬ IsHullNumber n e) × IsDead n e × Contains tried e
+-- the edge e is no hull edge, each locally minimal pair of it has another side that was seen killed, and it is among the edges tried
+abbrev pub IsAim : NetworkParts → List ℕ → List ℕ → ℕ → Type 0
+IsAim n seen tried e = (e < length n.edges) × (¬ IsHullNumber n e) × IsBroken n seen e × Contains tried e
 
 -- a seat may begin to kill such an edge alone; where it has set the bit, the edge is killed
-abbrev pub PhaseHolds : NetworkParts → List ℕ → List ℕ → Phase → Type 0
-PhaseHolds n ws tried Idle = Unit {0}
-PhaseHolds n ws tried (Begun e) = IsAim n tried e
-PhaseHolds n ws tried (Marked e) = IsAim n tried e × (0 < mark_of ws e)
+abbrev pub PhaseHolds : NetworkParts → List ℕ → List ℕ → List ℕ → Phase → Type 0
+PhaseHolds n ws seen tried Idle = Unit {0}
+PhaseHolds n ws seen tried (Begun e) = IsAim n seen tried e
+PhaseHolds n ws seen tried (Marked e) = IsAim n seen tried e × (0 < mark_of ws e)
 
 -- each load gave the value that its mark word has now
 abbrev pub ArePresent : NetworkParts → List ℕ → List Loaded → Type 0
@@ -100,7 +106,7 @@ pub record ViewHolds (n : NetworkParts) (ws : List ℕ) (d : Known) : Type 0 whe
   pub tried_below : (e : ℕ) → Contains d.tried e → e < length n.edges
   pub tried_killed : (e : ℕ) → Contains d.tried e → ¬ (d.phase ≡ Begun e) → 0 < mark_of ws e
   pub tried_once : AllPairs (λ e f. e ≢ f) d.tried
-  pub aim : PhaseHolds n ws d.tried d.phase
+  pub aim : PhaseHolds n ws d.seen d.tried d.phase
   pub in_pass : PassHolds n ws d.pass
   -- where the seat is settled, the edges that are not killed are the live ones
   pub quiet : d.settled ≡ true → AreLive n (unkilled (length n.edges) ws)
@@ -128,6 +134,8 @@ pub record MarksHold (k : About) (s : State ℕ Known) : Type 0 where
   pub few : (k.seats ≤ most_seats) × (length k.net.value.edges < 2 ^ 32)
   -- no closed edges have a killed one
   pub safe : (e : ℕ) → e < length k.net.value.edges → 0 < mark_of s.words e → IsDead k.net.value e
+  -- each killed edge was tried by some seat
+  pub killed_tried : (e : ℕ) → e < length k.net.value.edges → 0 < mark_of s.words e → Any (λ d. Contains d.tried e) s.views
   -- the bits of no edge are 0
   pub spare : (e : ℕ) → length k.net.value.edges ≤ e → e / 64 < mark_words k.net.value → mark_of s.words e ≡ 0
   pub each : (j : ℕ) (d : Known) → get_elem? s.views j ≡ some d → ViewHolds k.net.value s.words d

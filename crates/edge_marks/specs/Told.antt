@@ -12,7 +12,7 @@ use Rattle.edge_marks.specs.declared.view.Known.{Known}
 use Rattle.edge_marks.specs.Words.{bit_in, begun_word, finished_word}
 use Rattle.edge_marks.specs.Plays.{looked_view, opened_view, compared_view, settled_view}
 
--- What a seat knew it still knows, and the steps of the calls in between stand behind its steps.
+-- What a seat knew it still knows, and the steps of the calls in between come after its steps.
 pub record Remembers (d d' : Known) : Type 0 where
   pub seen : (e : ℕ) → Contains d.seen e → Contains d'.seen e
   pub tried : (e : ℕ) → Contains d.tried e → Contains d'.tried e
@@ -73,6 +73,10 @@ IsLivePair n e l r ls = IsMinimalPair n e l r × ((f : ℕ) → IsOtherSide n e 
 abbrev pub WasJudged : NetworkParts → List Asked → ℕ → Type 0
 WasJudged n ls e = IsHullNumber n e ⊎ (FoundKilled ls e ⊎ ((l : ℕ) × (r : ℕ) × IsLivePair n e l r ls))
 
+-- each edge below k was judged by the loads
+abbrev pub WereJudged : NetworkParts → List Asked → ℕ → Type 0
+WereJudged n ls k = (e : ℕ) → e < k → WasJudged n ls e
+
 -- each locally minimal pair of e with l on its left has another side that was seen killed
 abbrev pub IsBrokenWith : NetworkParts → ℕ → ℕ → List ℕ → Type 0
 IsBrokenWith n e l seen = (r : ℕ) → IsMinimalPair n e l r → Any (IsOtherSide n e l r) seen
@@ -88,7 +92,7 @@ entered n b f d = compared_view (finished_word n) f (opened_view (begun_word n) 
 
 -- what `settle` has found, between the views d and d'
 abbrev pub SettledBy : NetworkParts → Known → Known → Settle → Type 0
-SettledBy n d d' Quiet = (b : ℕ) × (ls : List Asked) × (d' ≡ settled_view (begun_word n) b (looked_all ls (entered n b b d))) × (d'.settled ≡ true)
-SettledBy n d d' (Lone e) = (b : ℕ) × (ls : List Asked) × (d' ≡ looked_all ls (entered n b b d)) × (e < length n.edges) × (¬ IsHullNumber n e) × FoundLive ls e × IsBroken n d'.seen e × (¬ Contains d'.tried e)
-SettledBy n d d' (Moved before after) = (ls : List Asked) × (d' ≡ settled_view (begun_word n) after (looked_all ls (entered n before before d))) × (before < after)
+SettledBy n d d' Quiet = (b : ℕ) × (ls : List Asked) × (d' ≡ settled_view (begun_word n) b (looked_all ls (entered n b b d))) × (d'.settled ≡ true) × WereJudged n ls (length n.edges)
+SettledBy n d d' (Lone e) = (b : ℕ) × (ls : List Asked) × (d' ≡ looked_all ls (entered n b b d)) × (e < length n.edges) × (¬ IsHullNumber n e) × FoundLive ls e × IsBroken n d'.seen e × (¬ Contains d'.tried e) × WereJudged n ls e
+SettledBy n d d' (Moved before after) = (ls : List Asked) × (d' ≡ settled_view (begun_word n) after (looked_all ls (entered n before before d))) × (before < after) × WereJudged n ls (length n.edges)
 SettledBy n d d' (InFlight begun finished) = (d' ≡ entered n begun finished d) × (begun ≢ finished)

@@ -1,7 +1,7 @@
 -- The words of the marks.
 -- First stand the mark words, with a bit for each edge, 64 to a word: the bit is 1 once the edge is killed. Then come two
 -- counters: of the kills that have begun, and of those that have finished. A counter stands 16 words, which are 128 bytes,
--- from the words before it and behind it, so that it has no cache line in common with what other threads use.
+-- from the words before it and after it, so that it has no cache line in common with what other threads use.
 use Rattle.std.specs.Prelude.{ℕ, ◌+◌, ◌*◌, ◌/◌, ◌%◌, List, length, slice_index}
 use Rattle.std.specs.Int.{bit_at}
 use Rattle.lmt_network.specs.Network.{NetworkParts}

@@ -3,7 +3,9 @@ ghost use Rattle.std.specs.Prelude.{◌≡◌, ℕ, ◌+◌, ◌/◌, ◌<◌, �
 ghost use Rattle.std.specs.Mem.Slots.{slots_items, slots_len, IsFull};
 ghost use Rattle.lmt_network.specs.Flags.{live_numbers};
 ghost use Rattle.lmt_network.specs.Numbers.{AreClosed, AreLive};
-ghost use Rattle.edge_marks.specs.Handles.{Belongs};
+ghost use Rattle.atomic_table.specs.Table.{State};
+ghost use Rattle.edge_marks.specs.declared.view.Known.{Known};
+ghost use Rattle.edge_marks.specs.Handles.{Belongs, IsStateWith, AreFlagsOf};
 ghost use Rattle.edge_marks.specs.Words.{mark_of};
 
 use crate::bits::bit_of;
@@ -41,10 +43,11 @@ fn put_away(mut closed: Closed<u32, Global>)
 impl Marks {
     /// Ends the marks: the flags of the edges that no seat has killed. Each member of every closed list is
     /// live in them, and no edge that the seat has seen killed; where the seat is settled, the live edges are
-    /// the live list. Takes no memory.
+    /// the live list. An edge that is not live in them was tried by some seat. Takes no memory.
     pub fn close(self, seat: Seat) -> Flags
         requires { Belongs self seat }
         ensures count { length result ≡ length self.net.edges }
+        ensures last { (s : State ℕ Known) × IsStateWith self seat s × AreFlagsOf self.net s result }
         ensures closed { (es : List ℕ) → AreClosed self.net es → All (Contains (live_numbers result)) es }
         ensures seen { (e : ℕ) → Contains seat.known.seen e → slice_index_or result e false ≡ false }
         ensures settled { seat.known.settled ≡ true → AreLive self.net (live_numbers result) }

@@ -1,7 +1,9 @@
 // Marks are opened, and a seat is split.
 ghost use Rattle.std.specs.Prelude.{◌≡◌, ℕ, ◌<◌, ◌≤◌, length, replicate, IfOk, All};
-ghost use Rattle.edge_marks.specs.Rule.{first_known};
-ghost use Rattle.edge_marks.specs.Handles.{Belongs, IsSameSeat};
+ghost use Rattle.atomic_table.specs.Table.{State};
+ghost use Rattle.edge_marks.specs.declared.view.Known.{Known};
+ghost use Rattle.edge_marks.specs.Rule.{AreBlank, first_known};
+ghost use Rattle.edge_marks.specs.Handles.{Belongs, IsSameSeat, IsStateWith};
 ghost use Rattle.edge_marks.specs.Plays.{noted_view, left_view, right_view};
 ghost use Rattle.edge_marks.specs.Told.{Remembers};
 ghost use Rattle.edge_marks.specs.Words.{most_seats};
@@ -29,13 +31,16 @@ fn blank_rows(alloc: Global, count: usize, len: usize) -> Result<Vec<Vec<u64>>, 
 }
 
 impl Marks {
-    /// The marks of the network, with each edge live, and the first of at most `seats` seats, from 1 to 65.
+    /// The marks of the network, with each edge live and no kill begun or finished, and the first of at most
+    /// `seats` seats, from 1 to 65.
     /// Takes all the memory that the marks and the seats will need, but for what `keep_supports` takes.
     pub fn open(alloc: Global, net: &Network, seats: u32) -> Result<(Marks, Seat), NoMemory>
         requires some { 0 < seats }
         requires few { seats ≤ most_seats }
-        ensures { IfOk result (λ t. (t.0.net ≡ net.now) × (t.0.seats ≡ seats) × Belongs t.0 t.1
-            × (t.1.known ≡ noted_view (first_known net.now seats))) }
+        ensures marks { IfOk result (λ t. (t.0.net ≡ net.now) × (t.0.seats ≡ seats)) }
+        ensures seat { IfOk result (λ t. Belongs t.0 t.1 × (t.1.known ≡ noted_view (first_known net.now seats))) }
+        // Whatever the words are while the seat knows no more than now.
+        ensures blank { IfOk result (λ t. (s : State ℕ Known) → IsStateWith t.0 t.1 s → AreBlank t.0.net s.words) }
     {
         let count = net.edges();
         let width = (count / 64) as usize + 1;

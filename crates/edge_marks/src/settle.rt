@@ -64,7 +64,8 @@ impl Marks {
     /// Finds out whether the edges that are not killed are the live list. It loads `begun` and `finished`:
     /// InFlight where these differ. Else it goes through the edges, ascending: Lone where one is no hull
     /// edge, was loaded live and is found without a support. Else it loads `begun` again: Moved where more
-    /// kills have begun, and Quiet where none has. After Quiet the seat is settled, for good.
+    /// kills have begun, and Quiet where none has. After Quiet the seat is settled, for good. The loads of
+    /// this call judged each edge before that of Lone, and all edges where it answers Moved or Quiet.
     pub fn settle(&self, net: &Network, seat: &mut Seat) -> Settle
         requires { Belongs self.now seat.old × (net.now ≡ self.now.net) }
         ensures seat { IsSameSeat seat.old seat.new × Belongs self.now seat.new }

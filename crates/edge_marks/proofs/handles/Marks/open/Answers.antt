@@ -2,7 +2,10 @@ use Rattle.std.proofs.Common.{rules, ◌≡◌, ℕ, ◌+◌, ◌/◌, List, len
 use lib.ListN.{length-replicate}
 use Rattle.std.proofs.lemmas.Grind.{common_steps}
 use Rattle.edge_marks.specs.declared.view.About.{About}
-use Rattle.edge_marks.specs.Plays.{Sitting}
+use Rattle.edge_marks.specs.declared.view.Known.{Known}
+use Rattle.edge_marks.specs.Rule.{first_known}
+use Rattle.edge_marks.specs.Plays.{Sitting, noted_view}
+use Rattle.edge_marks.proofs.Blank.{blank_first}
 use Rattle.edge_marks.proofs.Packed.{blank_word}
 use Rattle.edge_marks.proofs.Seats.{starts, notes}
 use Rattle.edge_marks.proofs.handles.Marks.open.Goals as goal
@@ -31,3 +34,10 @@ invariant_of-seat c =
       blank = search rules;
       few = search rules;
     }
+
+pub returns-clause-blank : goal.returns-clause-blank
+returns-clause-blank c =
+    let known : c.load.new.seat.me.0 ≡ noted_view (first_known c.args.net.now c.args.seats) = first_of (search rules, grind (arith, common_steps)) in
+    let seats : c.in-Ok.table.shared.key.seats ≡ c.args.seats = first_of (search rules, grind (arith, common_steps)) in
+    let splits = ap (λ (d : Known). d.splits) known in let some = c.requires.some in
+    blank_first _ _ (omega arith) (ap (λ (d : Known). d.tried) known)

@@ -5,7 +5,8 @@ use Rattle.edge_marks.specs.Plays.{settled_view}
 use Rattle.edge_marks.specs.Told.{Remembers, looked_all, entered}
 use Rattle.edge_marks.proofs.Remembering.{remembers_on, remembers_looks, remembers_entry, remembers_pass}
 use Rattle.edge_marks.proofs.Loads.{looked_on, low_kept, word_loaded, live_back}
-use Rattle.edge_marks.proofs.Judges.{one_judged, judged_words, pass_is, quiet_now}
+use Rattle.edge_marks.proofs.Judges.{judged_more, all_judged, one_judged, judged_words, pass_is, quiet_now}
+use Rattle.std.proofs.lemmas.List.Elements.{Contains-append_left}
 use Rattle.edge_marks.proofs.handles.Marks.settle.Goals as goal
 
 pub returns-then-begun-finished-clause-kept : goal.returns-then-begun-finished-clause-kept
@@ -37,6 +38,7 @@ returns-then-is_lone-clause-told c = let n = c.args.self.now.net in let b = c.op
       live_back so.0 t.0 c.loop-e.e r.1,
       r.2,
       r.3,
+      λ j h. judged_more n so.0 (so.0 ++ t.0) j (λ l has. Contains-append_left so.0 t.0 l has) (so.2 j h),
     )
 
 pub returns-then-is_lone-clause-low : goal.returns-then-is_lone-clause-low
@@ -58,7 +60,7 @@ end_pass-last-requires-clause-judged c = let n = c.args.self.now.net in let b = 
       b,
       map word_loaded so.0,
       ap (λ (d : Known). d.pass) now ∙ pass_is n b f c.args.seat.now.known so.0 same,
-      λ e low. judged_words n so.0 e (so.2 e (let a = ap (λ (m : NetworkParts). length m.edges) c.requires.1 in let z = c.edges-e-end.ensures.value in let l = c.loop-e-test.false in omega arith)),
+      λ e low. judged_words n so.0 e (all_judged n c.args.net.now so.0 _ _ c.requires.1 c.edges-e-end.ensures.value c.loop-e-test.false so.2 e low),
     )
 
 pub returns-clause-told : goal.returns-clause-told
@@ -67,8 +69,22 @@ returns-clause-told c = let n = c.args.self.now.net in let b = c.open_pass-begun
     let mid = so.1 ∙ ap (looked_all so.0) (c.open_pass-begun.ensures.view.0 ∙ ap (λ (z : ℕ). entered n b z c.args.seat.now.known) (sym same)) in
     let low : b ≤ x = (let l = c.end_pass-last.ensures.view.1 in let k : c.loop-e.seat.known.low ≡ b = ap (λ (d : Known). d.low) mid ∙ low_kept so.0 start in omega arith) in
     let is : x ≡ b = (let h = c.if-begun-last.false in omega arith) in
-    let now = c.end_pass-last.ensures.view.0 ∙ ap (λ (z : ℕ × Known). settled_view (length n.edges / 64 + 16) z.0 z.1) (λ i. (is i, mid i)) in
-    (b, so.0, now, ap (λ (d : Known). d.settled) now ∙ quiet_now (length n.edges / 64 + 16) b (looked_all so.0 start) (map word_loaded so.0) (pass_is n b b c.args.seat.now.known so.0 refl))
+    let now = c.end_pass-last.ensures.view.0 ∙ ap (λ (z : ℕ × Known). settled_view (length n.edges / 64 + 16) z.0 z.1) (λ i. (is i, mid i)) in (
+      b,
+      so.0,
+      now,
+      ap (λ (d : Known). d.settled) now ∙ quiet_now (length n.edges / 64 + 16) b (looked_all so.0 start) (map word_loaded so.0) (pass_is n b b c.args.seat.now.known so.0 refl),
+      all_judged n c.args.net.now so.0 _ _ c.requires.1 c.edges-e-end.ensures.value c.loop-e-test.false so.2,
+    )
+
+pub returns-then-begun-last-clause-told : goal.returns-then-begun-last-clause-told
+returns-then-begun-last-clause-told c = let n = c.args.self.now.net in let b = c.open_pass-begun.result.0 in let f = c.open_pass-begun.result.1 in let x = c.end_pass-last.result in let so = c.loop-e.invariant.2 in let same : b ≡ f = c.if-begun-finished.false in
+    let mid = so.1 ∙ ap (looked_all so.0) (c.open_pass-begun.ensures.view.0 ∙ ap (λ (z : ℕ). entered n b z c.args.seat.now.known) (sym same)) in (
+      so.0,
+      c.end_pass-last.ensures.view.0 ∙ ap (settled_view (length n.edges / 64 + 16) x) mid,
+      c.if-begun-last.true,
+      all_judged n c.args.net.now so.0 _ _ c.requires.1 c.edges-e-end.ensures.value c.loop-e-test.false so.2,
+    )
 
 pub returns-clause-low : goal.returns-clause-low
 returns-clause-low c = let so = c.loop-e.invariant.2 in let v = c.open_pass-begun.ensures.view in let v₁ = v.1 in let l = c.end_pass-last.ensures.view in let l₁ = l.1 in let l₂ = l.2 in
