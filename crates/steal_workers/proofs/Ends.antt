@@ -1,5 +1,5 @@
 -- What the end of a run means.
-use Rattle.std.proofs.Common.{◌≡◌, ◌≢◌, ℕ, ◌≤◌, List, [], ◌∷◌, ◌++◌, refl, sym, ap, ◌∙◌, arith}
+use Rattle.std.proofs.Common.{◌≡◌, ◌≢◌, ℕ, ◌≤◌, List, [], ◌∷◌, ◌++◌, refl, sym, ap, ◌∙◌, subst, arith}
 use Rattle.std.proofs.lemmas.List.{append_assoc}
 use Rattle.lmt_network.specs.Network.{NetworkParts}
 use Rattle.edge_marks.specs.declared.view.Made.{Made}
@@ -11,7 +11,7 @@ use Rattle.edge_marks.proofs.Remembering.{remembers_self, remembers_on}
 use Rattle.edge_marks.specs.Words.{begun_word, finished_word}
 use Rattle.steal_workers.specs.declared.answer.RunEnd.{RunEnd}
 use Rattle.steal_workers.specs.declared.answer.RunEnd.TheVariants.{Quiet, InFlight}
-use Rattle.steal_workers.specs.Workers.{SupplyView, loads_of_counters, EndHolds, EndsRun, GoesOn}
+use Rattle.steal_workers.specs.Workers.{SupplyView, loads_of_counters, EndHolds, EndsRun, GoesOn, LooksOn}
 
 -- a run that ended has an end
 pub end_of_run : (d d' : Known) (r : RunEnd) → EndsRun d d' r → EndHolds d' r
@@ -54,6 +54,21 @@ goes_on m s t u x y z a b = let a₁ = a.stolen in let b₁ = b.stolen in record
 -- a step at the marks
 pub goes_by : (m : MarksView) (s t : SeatView) (x : SupplyView) → IsSameSeat s t → Belongs m t → Remembers s.known t.known → GoesOn m s t x x
 goes_by m s t x same belongs kept = record { seat = same; belongs = belongs; kept = kept; edges = refl; stolen = omega arith }
+
+pub looks_self : (m : MarksView) (s : SeatView) → Belongs m s → LooksOn m s s
+looks_self m s h = record { seat = (refl, refl); belongs = h; kept = remembers_self s.known; low = refl }
+
+pub looks_on : (m : MarksView) (s t u : SeatView) → LooksOn m s t → LooksOn m t u → LooksOn m s u
+looks_on m s t u a b = record {
+  seat = (b.seat.0 ∙ a.seat.0, b.seat.1 ∙ a.seat.1);
+  belongs = b.belongs;
+  kept = remembers_on s.known t.known u.known a.kept b.kept;
+  low = b.low ∙ a.low;
+}
+
+-- looks that leave the supply as it was
+pub goes_looking : (m : MarksView) (s t : SeatView) (x y : SupplyView) → LooksOn m s t → y ≡ x → GoesOn m s t x y
+goes_looking m s t x y looks same = subst (GoesOn m s t x) (sym same) (goes_by m s t x looks.seat looks.belongs looks.kept)
 
 -- a task is taken
 pub goes_next : (m : MarksView) (s : SeatView) (x y : SupplyView) → Belongs m s → y.edges ≡ x.edges → x.stolen ≤ y.stolen → GoesOn m s s x y

@@ -1,5 +1,6 @@
 -- What contracts see of a worker.
-use Rattle.std.specs.Prelude.{◌≡◌, ◌≢◌, ℕ, ◌<◌, ◌≤◌, true, Option, Some, None, List, [], ◌∷◌, ◌++◌, length, slice_index_or}
+use Rattle.std.specs.Prelude.{◌≡◌, ◌≢◌, ℕ, ◌+◌, ◌<◌, ◌≤◌, true, Option, Some, None, List, [], ◌∷◌, ◌++◌, length, slice_index_or, All}
+use Rattle.lmt_network.specs.Network.{NetworkParts}
 use Rattle.edge_marks.specs.declared.view.Made.{Made}
 use Rattle.edge_marks.specs.declared.view.Made.TheVariants.{Load}
 use Rattle.edge_marks.specs.declared.view.Known.{Known}
@@ -48,6 +49,19 @@ pub record HasEnded (w : WorkerView) : Type 0 where
   pub end_is : w.end ≡ Some answer
   pub holds : EndHolds w.seat.known answer
 
+-- All workers have ended, each at the marks m, which were opened over the network n with a seat for each worker and one more.
+pub record HaveEndedAt (n : NetworkParts) (workers : ℕ) (ws : List WorkerView) (m : MarksView) : Type 0 where
+  pub net_is : m.net ≡ n
+  pub seats_are : m.seats ≡ workers + 1
+  pub each : All (λ w. HasEnded w × Belongs m w.seat) ws
+
+-- What a worker keeps while it looks at edges, of its seat before and after.
+pub record LooksOn (m : MarksView) (s t : SeatView) : Type 0 where
+  pub seat : IsSameSeat s t
+  pub belongs : Belongs m t
+  pub kept : Remembers s.known t.known
+  pub low : t.known.low ≡ s.known.low
+
 -- What a worker keeps while it works, of its seat and of its supply of tasks, each before and after.
 pub record GoesOn (m : MarksView) (s t : SeatView) (x y : SupplyView) : Type 0 where
   pub seat : IsSameSeat s t
@@ -56,12 +70,13 @@ pub record GoesOn (m : MarksView) (s t : SeatView) (x y : SupplyView) : Type 0 w
   pub edges : y.edges ≡ x.edges
   pub stolen : x.stolen ≤ y.stolen
 
--- The workers of a team at these marks: the one at place k has the number k, a seat that belongs to the marks and has made no
--- step, and was not run.
+-- The workers of a team at these marks: the one at place k has the number k, a seat that belongs to the marks, has made no
+-- step and has tried no edge, and was not run.
 pub record IsRecruit (m : MarksView) (k : ℕ) (w : WorkerView) : Type 0 where
   pub number : w.number ≡ k
   pub belongs : Belongs m w.seat
   pub blank : w.seat.known.steps ≡ []
+  pub untried : w.seat.known.tried ≡ []
   pub unrun : w.end ≡ None
   pub none_stolen : w.stolen ≡ 0
 

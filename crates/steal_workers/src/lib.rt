@@ -1,11 +1,13 @@
-//! Workers that kill the edges without a support, each in a thread of its own. A worker takes tasks from
-//! its own deque, steals from the others where that is empty, and ends once a pass over all edges has found
-//! the marks quiet, or a kill of another worker under way.
+//! Workers that kill the edges without a support, each in a thread of its own. A worker examines the edges
+//! that wait in its own row, steals groups of them from the others where none waits there, and ends once a
+//! pass over all edges has found the marks quiet, or a kill of another worker under way.
 #![tactic(auto)]
 
 mod answer;
 mod dealing;
+mod due;
 mod examining;
+mod hand;
 mod laws;
 mod running;
 mod settling;

@@ -11,7 +11,10 @@ use edge_marks::{Marks, Seat, Settle};
 use lmt_network::Network;
 use mwt_base::Gate;
 
-// Goes through tasks until none is found, but no more of them than there are edges.
+// How many tasks a worker does between two passes at most, for each edge of the network.
+const TASKS_FOR_EACH: u64 = 64;
+
+// Goes through tasks until none is found, but no more than 64 for each edge.
 fn go_through_tasks<G: Gate>(
     marks: &Marks,
     net: &Network,
@@ -24,7 +27,7 @@ fn go_through_tasks<G: Gate>(
     requires edges { supply.old.edges ≡ length net.now.edges }
     ensures { GoesOn marks.now seat.old seat.new supply.old supply.new }
 {
-    'tasks: for _ in 0..net.edges() {
+    'tasks: for _ in 0..TASKS_FOR_EACH * net.edges() as u64 {
         let Some(e) = supply.next() else {
             return;
         };

@@ -6,8 +6,8 @@ ghost use Rattle.exact_predicates.specs.Candidates.{AreCandidates};
 ghost use Rattle.lmt_network.specs.Flags.{live_numbers, live_edges};
 ghost use Rattle.lmt_network.specs.Live.{IsLive};
 ghost use Rattle.lmt_network.specs.Numbers.{AreLive};
-ghost use Rattle.edge_marks.specs.Handles.{Belongs};
-ghost use Rattle.steal_workers.specs.Workers.{WorkerView, HasEnded};
+ghost use Rattle.edge_marks.specs.Handles.{Belongs, MarksView};
+ghost use Rattle.steal_workers.specs.Workers.{HasEnded, HaveEndedAt};
 
 use crate::dealing::Dealing;
 use crate::worker::WorkerState;
@@ -77,7 +77,7 @@ pub fn settle_all<R: Threads + Sync, G: Gate>(
         → AreCandidates net.now.points net.now.hull diamond net.now.edges
         → IsLive net.now.points net.now.hull diamond (live_edges net.now s.flags)) }
     ensures count { IfOk result (λ s. length s.team.items ≡ workers) }
-    ensures ended { IfOk result (λ s. All (λ w. HasEnded w × (w.seat.known.net ≡ net.now)) s.team.items) }
+    ensures ended { IfOk result (λ s. (marks : MarksView) × HaveEndedAt net.now workers s.team.items marks) }
 {
     let (marks, mut seat) = Marks::open(alloc, net, workers + 1)?;
     let mut team = WorkerState::team(alloc, net, &marks, &mut seat, workers, dealing)?;

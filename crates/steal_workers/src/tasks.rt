@@ -75,7 +75,7 @@ impl Tasks {
         Ok(Tasks { deque })
     }
 
-    // A further task, which is dropped for want of memory.
+    // A further task, which is dropped where memory runs out.
     pub fn push(&mut self, e: u32)
         requires { e < self.old }
         ensures { self.new ≡ self.old }

@@ -1,10 +1,12 @@
 // Workers.
 ghost use Rattle.std.specs.Prelude.{◌≡◌, ◌<◌, ◌≤◌, Some, None, length, IfSome, IfOk};
+ghost use Rattle.std.specs.Arc.{arc_value};
 ghost use Rattle.edge_marks.specs.Handles.{Belongs, IsSameSeat};
 ghost use Rattle.edge_marks.specs.Told.{Remembers};
 ghost use Rattle.steal_workers.specs.Workers.{EndHolds, EndsRun, worker};
 
 use crate::answer::RunEnd;
+use crate::due::Due;
 use crate::running::work;
 use crate::supply::Supply;
 use crate::tasks::Thief;
@@ -13,9 +15,11 @@ use lmt_network::Network;
 use mwt_base::{Gate, NoMemory, Place};
 use std::alloc::Global;
 use std::marker::Model;
+use std::sync::Arc;
 
-/// One of a team of workers. It has a seat at the marks of the team, and a deque of tasks from which the
-/// others may steal. A task is an edge whose support is to be examined.
+/// One of a team of workers. It has a seat at the marks of the team, a row of tasks, and a deque of groups
+/// of these from which the others may steal. A task is an edge whose support is to be examined; a group is
+/// those of up to 64 edges that follow one another.
 #[derive(Drop)]
 pub struct WorkerState {
     number: u32,
@@ -37,19 +41,21 @@ impl Model for WorkerState {
 }
 
 impl WorkerState {
-    // A worker that was not run, with no tasks, and with room for so many.
+    // A worker that was not run, of a team for which this waits.
     pub(crate) fn of(
         alloc: Global,
         net: &Network,
         mut seat: Seat,
         number: u32,
-        room: usize,
+        due: Arc<Due>,
     ) -> Result<WorkerState, NoMemory>
-        requires { seat.known.net ≡ net.now }
+        requires seat { seat.known.net ≡ net.now }
+        requires due { arc_value due ≡ length net.now.edges }
         ensures { IfOk result (λ w. w ≡ worker number seat 0 None) }
     {
-        let supply = Supply::of(alloc, net.edges(), room)?;
-        seat.keep_supports(alloc, net)?;
+        let supply = Supply::of(alloc, number, due)?;
+        // Where there is no room for the places of its supports, the worker goes on without.
+        let _ = seat.keep_supports(alloc, net);
         Ok(WorkerState {
             number,
             seat,
@@ -58,12 +64,11 @@ impl WorkerState {
         })
     }
 
-    // One more task.
-    pub(crate) fn give(&mut self, e: u32)
-        requires { e < length self.old.seat.known.net.edges }
+    // Puts what waits for it into its deque.
+    pub(crate) fn refill(&mut self)
         ensures { self.new ≡ self.old }
     {
-        self.supply.push(e);
+        self.supply.refill();
     }
 
     // What another worker steals from this one with.
@@ -83,14 +88,15 @@ impl WorkerState {
     }
 
     /// Kills edges without a support until none is found, and answers what the last pass over all edges
-    /// found. It takes tasks from its own deque, and by one try from each other where that is empty. It
-    /// examines an edge that is no hull edge, not tried by its seat and not killed, and where it is the
-    /// first to kill it, the edges around become tasks. Where no task is left, or after as many as there are
-    /// edges, it settles: after Lone it kills that edge, after Moved it goes on.
+    /// found. It goes through its row, upwards and downwards by turns, and steals a group by one try from each
+    /// other worker where no task is left there. It examines an edge that is no hull edge, not tried by its
+    /// seat and not killed. Where it is the first to kill it, the edges around that may have lost their
+    /// support become tasks, each in the row of the worker to whom it was dealt. Where no task is left, or
+    /// after 64 for each edge, it settles: after Lone it kills that edge, after Moved it goes on.
     ///
     /// Quiet: the worker's seat is settled. InFlight: the last two steps of the seat were made in this call,
-    /// and are a load of `begun` and one of `finished` that gave these numbers, which differ. A task that
-    /// finds no memory is dropped, since the pass finds the edge. The gate is passed with Begin first, with
+    /// and are a load of `begun` and one of `finished` that gave these numbers, which differ. A group that
+    /// finds no memory is dropped, since the pass finds its edges. The gate is passed with Begin first, with
     /// Edge before each edge is examined, and with End last.
     pub fn run<G: Gate>(&mut self, marks: &Marks, net: &Network, gate: &G) -> RunEnd
         requires { Belongs marks.now self.old.seat × (net.now ≡ marks.now.net) }
@@ -102,6 +108,7 @@ impl WorkerState {
         ensures ends { EndsRun self.old.seat.known self.new.seat.known result }
     {
         gate.at(self.number, Place::Begin);
+        self.supply.begin();
         let end = work(
             marks,
             net,
@@ -110,6 +117,7 @@ impl WorkerState {
             &mut self.seat,
             &mut self.supply,
         );
+        self.supply.end();
         self.end = Some(end);
         gate.at(self.number, Place::End);
         end
@@ -123,7 +131,7 @@ impl WorkerState {
         self.end
     }
 
-    /// How many tasks the worker has stolen. The count stays at 2^64 - 1 once it is reached.
+    /// How many tasks the worker has stolen, those of a group one by one. The count stays at 2^64 - 1 once it is reached.
     pub fn stolen(&self) -> u64
         ensures { result ≡ self.now.stolen }
     {
