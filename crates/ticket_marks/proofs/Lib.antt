@@ -1,0 +1,17 @@
+pub mod Answering
+pub mod Apart
+pub mod Closes
+pub mod Examines
+pub mod Kept
+pub mod Kills
+pub mod Loads
+pub mod Looks
+pub mod Members
+pub mod Packed
+pub mod Ranking
+pub mod Remembering
+pub mod Seats
+pub mod Sides
+pub mod Sitters
+pub mod Totals
+pub mod Views

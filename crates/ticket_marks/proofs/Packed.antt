@@ -1,0 +1,36 @@
+-- Bits, 64 to a word.
+use Rattle.std.proofs.Common.{◌≡◌, ◌≢◌, ℕ, zero, suc, ◌/◌, ◌%◌, ◌^◌, ◌<◌, max, Bool, true, false, List, length, replicate, get_or, set, sym, refl, ap, ◌∙◌, arith, bit_or, get_or-set_other, get_or-set_same}
+use mathlib.Core.Logic.{dite}
+use native.Mathlib.Decide.{ℕ_discrete}
+use Rattle.std.specs.Int.{bit_at}
+use Rattle.std.proofs.lemmas.Nat.Bits.{bit_at_or, bit_at-pow_same, bit_at-pow_other, bit_at-lt, bit_at-zero}
+use Rattle.ticket_marks.specs.Rule.{weight}
+use Rattle.ticket_marks.specs.Words.{bit_of}
+
+-- the bits with that of e set
+abbrev pub with_bit : List ℕ → ℕ → List ℕ
+with_bit bits e = set bits (e / 64) (bit_or (get_or bits (e / 64) 0) (2 ^ (e % 64)))
+
+pub bit_here : (bits : List ℕ) (e : ℕ) → e / 64 < length bits → bit_of (with_bit bits e) e ≡ 1
+bit_here bits e low = let w : ℕ = get_or bits (e / 64) 0 in let k : ℕ = e % 64 in let small = bit_at-lt w k in let m : max (bit_at w k) 1 ≡ 1 = omega arith in
+    ap (λ (n : ℕ). bit_at n k) (get_or-set_same bits (e / 64) (bit_or w (2 ^ k)) 0 low) ∙ (bit_at_or w (2 ^ k) k ∙ (ap (max (bit_at w k)) (bit_at-pow_same k) ∙ m))
+
+pub bit_else : (bits : List ℕ) (e f : ℕ) → e / 64 < length bits → f ≢ e → bit_of (with_bit bits e) f ≡ bit_of bits f
+bit_else bits e f low other = let w : ℕ = get_or bits (e / 64) 0 in let k : ℕ = e % 64 in let j : ℕ = f % 64 in dite (ℕ_discrete (f / 64) (e / 64))
+    (λ same. let apart : j ≢ k = (λ z. other (omega arith)) in let m : max (bit_at w j) 0 ≡ bit_at w j = omega arith in
+    ap (λ (i : ℕ). bit_at (get_or (with_bit bits e) i 0) j) same ∙ (ap (λ (n : ℕ). bit_at n j) (get_or-set_same bits (e / 64) (bit_or w (2 ^ k)) 0 low)
+    ∙ (bit_at_or w (2 ^ k) j ∙ (ap (max (bit_at w j)) (bit_at-pow_other k j apart) ∙ (m ∙ ap (λ (i : ℕ). bit_at (get_or bits i 0) j) (sym same))))))
+    (λ ne. ap (λ (n : ℕ). bit_at n j) (get_or-set_other bits (e / 64) (f / 64) (bit_or w (2 ^ k)) 0 ne))
+
+pub weight_one : (b : Bool) → weight b ≡ 1 → b ≡ true
+weight_one true h = refl
+weight_one false h = absurd (omega arith)
+
+pub blank_word : (n e : ℕ) → get_or (replicate n zero) e zero ≡ zero
+blank_word zero e = refl
+blank_word (suc n) zero = refl
+blank_word (suc n) (suc e) = blank_word n e
+
+-- no bit of blank words is set
+pub blank_bit : (n e : ℕ) → bit_of (replicate n zero) e ≡ zero
+blank_bit n e = ap (λ (w : ℕ). bit_at w (e % 64)) (blank_word n (e / 64)) ∙ bit_at-zero (e % 64)

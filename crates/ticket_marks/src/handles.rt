@@ -1,0 +1,60 @@
+// The tickets and the seats, as callers have them.
+use crate::view::{About, Known, TicketRule};
+use atomic_table::{Seat as Place, Table};
+use lmt_network::Ranks;
+use std::alloc::Global;
+use std::marker::Model;
+
+// Notes stand at each 32nd slot of four bytes, and the counter 16 words of eight bytes from what stands
+// beside it, so that threads write them without a cache line in common.
+pub(crate) const NOTE_STEP: usize = 32;
+
+pub(crate) const COUNTER_STEP: usize = 16;
+
+/// The mark of each edge of a network: 0, or the rank with which it was killed. Threads read it and kill
+/// edges through it, each with a seat of its own, and none waits for another.
+#[derive(Drop)]
+pub struct TicketMarks {
+    pub(crate) table: Table<u32, Known, About, TicketRule, Global>,
+    // How many edges there are.
+    pub(crate) count: u32,
+    // What `close` answers.
+    pub(crate) ranks: Ranks,
+    pub(crate) heap: Global,
+}
+
+impl Model for TicketMarks {
+    ghost use Rattle.std.specs.Prelude.{◌≡◌, ◌+◌, ◌<◌, ◌^◌, length, replicate};
+    ghost use Rattle.ticket_marks.specs.Handles.{TicketsView};
+    ghost use Rattle.ticket_marks.specs.Words.{word_count};
+
+    ghost Value = { TicketsView };
+
+    ghost view = { λ m. record { table = m.table.shared.table_id; net = m.table.shared.key.net.value; seats = m.table.shared.key.seats } };
+
+    ghost invariant = { λ m. (m.count ≡ length m.table.shared.key.net.value.edges)
+        × (m.table.shared.table_id.words ≡ word_count m.table.shared.key.net.value)
+        × (m.ranks ≡ replicate m.count 0) };
+}
+
+/// The right of one thread to step, and what it knows of the marks.
+#[derive(Drop)]
+pub struct TicketSeat {
+    pub(crate) place: Place<u32, Known>,
+    // The number of its note.
+    pub(crate) slot: u32,
+    // Of each edge, whether the seat has tried it: a bit, 64 to a word.
+    pub(crate) bits: Vec<u64>,
+    // The bits of the seats that may be split off.
+    pub(crate) spare: Vec<Vec<u64>>,
+}
+
+impl Model for TicketSeat {
+    ghost use Rattle.ticket_marks.specs.Handles.{SeatView, IsSeated};
+
+    ghost Value = { SeatView };
+
+    ghost view = { λ s. record { table = s.place.table_id; id = s.place.id; known = s.place.me.0 } };
+
+    ghost invariant = { λ s. IsSeated s.place.me.0 s.place.me.1 s.slot s.bits.items s.spare.items };
+}
