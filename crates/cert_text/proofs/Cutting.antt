@@ -5,7 +5,7 @@ use Rattle.std.proofs.lemmas.Bool.{cases_Bool, and_parts, and_from, not-true, no
 use Rattle.std.proofs.lemmas.List.Splits.{slice_split-cons_yes, slice_split-cons_no, join_with_byte-slice_split}
 use Rattle.cert_text.specs.Cuts.{is_byte, cut, fields}
 
--- a text is cut as its rest is, behind a byte that is another
+-- a text is cut as its rest is, after a byte that is another
 abbrev pub put_before : ℕ → Option (List ℕ × List ℕ) → Option (List ℕ × List ℕ)
 put_before b None = None
 put_before b (Some p) = Some (b ∷ p.0, p.1)
@@ -57,7 +57,7 @@ cut_takes c (b ∷ bs) p e = elim (cases_Bool (is_byte c b)) [
 abbrev pub is_free : ℕ → List ℕ → Bool
 is_free c t = list_all (λ b. not (is_byte c b)) t
 
--- what stands before the byte and behind it is cut so
+-- what stands before the byte and after it is cut so
 pub cut_again : (c : ℕ) (t r : List ℕ) → is_free c t ≡ true → cut c (t ++ c ∷ r) ≡ Some (t, r)
 cut_again c [] r h = cut_here c r
 cut_again c (b ∷ bs) r h =

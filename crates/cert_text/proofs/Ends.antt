@@ -1,4 +1,4 @@
--- The lines before the lists of a report and behind them.
+-- The lines before the lists of a report and after them.
 use Rattle.std.proofs.Common.{◌≡◌, ◌⊎◌, ℕ, pos, ◌+◌, ◌*◌, ◌<◌, ◌≤◌, ◌^◌, Bool, true, false, cond, eqb, List, [], ◌∷◌, ◌++◌, Result, Ok, Err, inl, inr, refl, sym, ap, subst, ◌∙◌, arith, codes, bytes_eq}
 use Rattle.std.proofs.lemmas.Fmt.{decimal_digit}
 use Rattle.mwt_base.specs.Limits.{most_amount, most_unit}
@@ -16,7 +16,7 @@ use Rattle.cert_text.specs.Within.{IsFrom, IsUpto}
 use Rattle.cert_text.proofs.Cutting.{cut_again}
 use Rattle.cert_text.proofs.LineKinds.{chosen, word_is}
 use Rattle.cert_text.proofs.Taking.{Took, took_then, text_first, bind_ok, ok_is, line_takes, value_takes, value_found, Reaches}
-use Rattle.cert_text.proofs.WordKinds.{count_kind, diamond_kind, method_kind, length_kind, AreEnds, amount_kind, end_kind}
+use Rattle.cert_text.proofs.WordKinds.{count_kind, diamond_kind, HasMethod, method_kind, length_kind, AreEnds, amount_kind, end_kind}
 
 -- the version line
 version_line : (v : ℕ) → v < 10 → count_line (codes "mwt") v ≡ codes "mwt " ++ (48 + v) ∷ []
@@ -121,6 +121,7 @@ tail_of t =
     ∷ codes "end" ∷ []
 
 pub record IsTail (version : ℕ) (t : Tail) : Type 0 where
+  pub method : HasMethod version t.method
   pub ends : AreEnds (t.lo, t.hi)
   pub bound : IsUpto (most_bound version) t.bound
   pub gap : IsUpto (most_bound version) t.gap
@@ -136,19 +137,19 @@ unfolding tail_at
 tail_takes version p x e =
     let most = most_bound version in
     let small = bound_small version in
-    let a = bind_ok (value_at method_in p) _ x e in
+    let a = bind_ok (value_at (method_in version) p) _ x e in
     let b = bind_ok (value_at length_in a.0.1) _ x a.2 in
     let c = bind_ok (value_at (amount_line_in (codes "bound") most) b.0.1) _ x b.2 in
     let d = bind_ok (value_at (amount_line_in (codes "gap") most) c.0.1) _ x c.2 in
     let f = bind_ok (value_at end_in d.0.1) _ x d.2 in
-    let method = value_takes method_kind p a.0 a.1 in
+    let method = value_takes (method_kind version) p a.0 a.1 in
     let ends = value_takes length_kind a.0.1 b.0 b.1 in
     let bound = value_takes (amount_kind (codes "bound") most refl small) b.0.1 c.0 c.1 in
     let gap = value_takes (amount_kind (codes "gap") most refl small) c.0.1 d.0 d.1 in
     let last = value_takes end_kind d.0.1 f.0 f.1 in
     let made : Tail × Place = (record { method = a.0.0; lo = b.0.0.0; hi = b.0.0.1; bound = c.0.0; gap = d.0.0 }, f.0.1) in
     subst (λ (y : Tail × Place). Took p.rest (tail_of y.0) y.1.rest × IsTail version y.0) (ok_is made x f.2)
-    (took_then method.0 (took_then ends.0 (took_then bound.0 (took_then gap.0 last.0))), record { ends = ends.1; bound = bound.1; gap = gap.1 })
+    (took_then method.0 (took_then ends.0 (took_then bound.0 (took_then gap.0 last.0))), record { method = method.1; ends = ends.1; bound = bound.1; gap = gap.1 })
 
 pub tail_found : (version : ℕ) (t : Tail) → IsTail version t → (n : ℕ) (rest : List ℕ)
     → Reaches (tail_at version (record { number = n; rest = lines_text (tail_of t) ++ rest })) t rest
@@ -166,7 +167,7 @@ tail_found version t is n rest =
     let behind_method = length_line ++ 10 ∷ behind_length in
     let text : lines_text (tail_of t) ++ rest ≡ method_line ++ 10 ∷ behind_method =
     five_lines method_line length_line bound_line gap_line (codes "end") rest in
-    let method = value_found method_kind t.method tt n behind_method in
+    let method = value_found (method_kind version) t.method is.method n behind_method in
     let ends = value_found length_kind (t.lo, t.hi) is.ends (n + 1) behind_length in
     let bound = value_found (amount_kind (codes "bound") most refl small) t.bound is.bound (n + 1 + 1) behind_bound in
     let gap = value_found (amount_kind (codes "gap") most refl small) t.gap is.gap (n + 1 + 1 + 1) behind_gap in

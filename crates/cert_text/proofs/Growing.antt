@@ -5,7 +5,7 @@ use Rattle.mwt_base.specs.Line.{line}
 use Rattle.cert_text.specs.Texts.{lines_text, Grows, head_lines, point_lines, edge_lines, tail_lines, report_lines, report_text}
 use Rattle.cert_text.specs.declared.report.Report.{Report}
 
--- lines behind lines
+-- lines after lines
 pub grows_then : (a b c : List ℕ) (xs ys : List (List ℕ)) → Grows a b xs → Grows b c ys → Grows a c (xs ++ ys)
 grows_then a b c xs ys p q =
     q ∙ ap (λ (t : List ℕ). t ++ lines_text ys) p ∙ append_assoc a (lines_text xs) (lines_text ys) ∙ ap (λ (t : List ℕ). a ++ t) (sym (flat_map-append line xs ys))

@@ -37,7 +37,7 @@ pub chosen : {A : Type 0} (b : Bool) (x y z : A) → cond b x y ≡ z → ((b �
 chosen true x y z e = inl (refl, e)
 chosen false x y z e = inr (refl, e)
 
--- what is found behind a test
+-- what is found after a test
 pub tested : {A : Type 0} (b : Bool) (f : Found A) (y : A) → cond b f NotSpelled ≡ Is y → (b ≡ true) × (f ≡ Is y)
 tested true f y e = (refl, e)
 tested false f y e = absurd cc

@@ -1,9 +1,9 @@
 -- A list that ascends from each item to the next ascends between any two, and the other way round.
-use Rattle.std.proofs.Common.{ℕ, zero, suc, ◌+◌, ◌<◌, List, [], ◌∷◌, length, get_or, All, AllPairs, Option, Some, None, arith}
+use Rattle.std.proofs.Common.{zero, suc, List, [], ◌∷◌, get_or, All, AllPairs, Option, Some, None, arith}
 use Rattle.std.specs.Prelude.{⊤}
 use Rattle.std.proofs.lemmas.List.Kept.{AllPairs-cons}
 
--- each is R behind the one before it, and the first behind the last one, if there is one
+-- each is R after the one before it, and the first after the last one, if there is one
 abbrev pub IsChain : {X : Type 0} → (X → X → Type 0) → Option X → List X → Type 0
 IsChain R last [] = ⊤
 IsChain R None (x ∷ xs) = IsChain R (Some x) xs
@@ -12,7 +12,7 @@ IsChain R (Some last) (x ∷ xs) = R last x × IsChain R (Some x) xs
 abbrev pub IsTransitive : {X : Type 0} → (X → X → Type 0) → Type 0
 IsTransitive {X} R = (x y z : X) → R x y → R y z → R x z
 
--- behind y, and so behind what is before it
+-- after y, and so after what is before it
 all_behind : {X : Type 0} (R : X → X → Type 0) → IsTransitive R → (x y : X) (ys : List X) → R x y → AllPairs R (y ∷ ys) → All (R x) (y ∷ ys)
 all_behind R t x y ys h pairs zero d inside = h
 all_behind R t x y ys h pairs (suc k) d inside = t x y (get_or ys k d) h (pairs zero (suc k) d (omega arith) inside)

@@ -1,7 +1,8 @@
--- The text of a report is within the limit on input.
-use Rattle.std.proofs.Common.{◌≡◌, ◌⊎◌, ℕ, ℤ, pos, ◌+◌, ◌*◌, ◌^◌, ◌<◌, ◌≤◌, List, [], ◌∷◌, ◌++◌, length, inl, inr, arith, decimal, codes}
+-- How long the text of a report is.
+use Rattle.std.proofs.Common.{◌≡◌, ◌⊎◌, ℕ, ℤ, pos, negsuc, ◌+◌, ◌*◌, ◌^◌, ◌<◌, ◌≤◌, List, [], ◌∷◌, ◌++◌, length, inl, inr, arith, decimal, codes}
 use Rattle.std.specs.Prelude.{unsigned_abs}
-use Rattle.mwt_base.specs.Limits.{most_amount, most_bytes, most_coordinate, most_edges, most_length, most_points, most_tiles, most_unit}
+use Rattle.std.proofs.lemmas.Int.{ints}
+use Rattle.mwt_base.specs.Limits.{most_amount, most_anchor, most_bytes, most_coordinate, most_edges, most_length, most_points, most_price, most_tiles, most_unit}
 use Rattle.exact_predicates.specs.declared.diamond.Diamond.{Diamond}
 use Rattle.exact_predicates.specs.declared.diamond.Diamond.TheVariants.{On, Off}
 use Rattle.exact_predicates.specs.declared.edge.Edge.{Edge}
@@ -10,54 +11,57 @@ use Rattle.exact_predicates.specs.declared.tri.Tri.{Tri}
 use Rattle.cert_text.specs.declared.report.LineKind.{LineKind}
 use Rattle.cert_text.specs.declared.report.LineKind.TheVariants.{Hull, Inner, Skeleton}
 use Rattle.cert_text.specs.declared.report.Method.{Method}
-use Rattle.cert_text.specs.declared.report.Method.TheVariants.{Flips}
+use Rattle.cert_text.specs.declared.report.Method.TheVariants.{Flips, Faces}
 use Rattle.cert_text.specs.declared.report.PriceLine.{PriceLine}
 use Rattle.cert_text.specs.declared.report.Report.{Report}
 use Rattle.length_enclosure.specs.Amount.{amount}
 use Rattle.cert_text.specs.Lines.{most_bound}
 use Rattle.cert_text.specs.Texts.{spaced, lines_text, point_fields, hull_fields, edge_fields, tri_fields, price_fields, live_fields, count_line, block, diamond_word, method_word, head_lines, tail_lines, report_lines, report_text}
-use Rattle.cert_text.specs.Within.{IsWithin, IsUpto, IsPointRow, IsHullRow, IsEdgeRow, IsTriRow, ArePrices, IsLiveRow}
+use Rattle.cert_text.specs.Within.{IsWithin, IsBetween, IsUpto, IsPointRow, IsHullRow, IsEdgeRow, IsTriRow, ArePrices, IsLiveRow}
 use Rattle.cert_text.proofs.Ends.{bound_small}
 use Rattle.cert_text.proofs.FieldTexts.{between_size}
-use Rattle.cert_text.proofs.LiveKinds.{anchor_small, price_small, side_small}
-use Rattle.cert_text.proofs.Sizes.{width, number_short, coordinate_short, amount_short, text_length, first_short, block_short}
+use Rattle.cert_text.proofs.Sizes.{width, number_short, index_short, coordinate_short, amount_short, price_short, anchor_short, side_short, text_length, first_short, block_short}
 
-point_short : (p : Point) → IsPointRow p → width (point_fields p) ≤ 120
+point_short : (p : Point) → IsPointRow p → width (point_fields p) ≤ 35
 point_short p h =
     let i = number_short p.id h.id in
     let x = coordinate_short p.x (between_size most_coordinate p.x (record { least = h.place.left; most = h.place.right })) in
     let y = coordinate_short p.y (between_size most_coordinate p.y (record { least = h.place.low; most = h.place.high })) in
     omega (arith, i, x, y)
 
-hull_short : (points : ℕ) → points < 2 ^ 32 → (u : ℕ) → IsHullRow points u → width (hull_fields u) ≤ 120
-hull_short points few u h = let l = number_short u (omega arith) in omega (arith, l)
+hull_short : (points : ℕ) → points ≤ 10 ^ 4 → (u : ℕ) → IsHullRow points u → width (hull_fields u) ≤ 5
+hull_short points few u h = let l = index_short u (omega arith) in omega (arith, l)
 
-edge_width : (points : ℕ) → points < 2 ^ 32 → (e : Edge) → IsEdgeRow points e → (length (decimal e.a) ≤ 10) × (length (decimal e.b) ≤ 10)
-edge_width points few e h = let rises = e.ascending in (number_short e.a (omega arith), number_short e.b (omega arith))
+edge_width : (points : ℕ) → points ≤ 10 ^ 4 → (e : Edge) → IsEdgeRow points e → (length (decimal e.a) ≤ 4) × (length (decimal e.b) ≤ 4)
+edge_width points few e h = let rises = e.ascending in (index_short e.a (omega arith), index_short e.b (omega arith))
 
-edge_short : (points : ℕ) → points < 2 ^ 32 → (e : Edge) → IsEdgeRow points e → width (edge_fields e) ≤ 22
+edge_short : (points : ℕ) → points ≤ 10 ^ 4 → (e : Edge) → IsEdgeRow points e → width (edge_fields e) ≤ 10
 edge_short points few e h = let w = edge_width points few e h in let a = w.0 in let b = w.1 in omega (arith, a, b)
 
-tri_short : (points : ℕ) → points < 2 ^ 32 → (t : Tri) → IsTriRow points t → width (tri_fields t) ≤ 120
+tri_short : (points : ℕ) → points ≤ 10 ^ 4 → (t : Tri) → IsTriRow points t → width (tri_fields t) ≤ 15
 tri_short points few t h =
     let rises = t.below_b in
     let in_b = h.b in
     let in_c = h.c in
-    let a = number_short t.a (omega arith) in
-    let b = number_short t.b (omega arith) in
-    let c = number_short t.c (omega arith) in
+    let a = index_short t.a (omega arith) in
+    let b = index_short t.b (omega arith) in
+    let c = index_short t.c (omega arith) in
     omega (arith, a, b, c)
 
-prices_short : (version : ℕ) (kind : LineKind) (value left right : ℤ) → ArePrices version kind value left right → width (price_fields kind value left right) ≤ 98
-prices_short version Hull value left right h = let v = amount_short value (anchor_small value h.0) in omega (arith, v)
-prices_short version Inner value left right h = let v = amount_short value (price_small value h.0) in omega (arith, v)
+between_short : (n : ℤ) → IsBetween (pos 0) (pos most_anchor) n → length (amount n) ≤ 20
+between_short (pos n) h = let m = h.most in side_short n (omega (arith, ints))
+between_short (negsuc n) h = absurd (let l = h.least in omega (arith, ints))
+
+prices_short : (version : ℕ) (kind : LineKind) (value left right : ℤ) → ArePrices version kind value left right → width (price_fields kind value left right) ≤ 65
+prices_short version Hull value left right h = let v = anchor_short value (between_size most_anchor value h.0) in omega (arith, v)
+prices_short version Inner value left right h = let v = price_short value (between_size most_price value h.0) in omega (arith, v)
 prices_short version Skeleton value left right h =
-    let v = amount_short value (price_small value h.1) in
-    let l = amount_short left (side_small left h.2) in
-    let r = amount_short right (side_small right h.3) in
+    let v = price_short value (between_size most_price value h.1) in
+    let l = between_short left h.2 in
+    let r = between_short right h.3 in
     omega (arith, v, l, r)
 
-live_short : (version points : ℕ) → points < 2 ^ 32 → (l : PriceLine) → IsLiveRow version points l → width (live_fields l) ≤ 120
+live_short : (version points : ℕ) → points ≤ 10 ^ 4 → (l : PriceLine) → IsLiveRow version points l → width (live_fields l) ≤ 75
 live_short version points few l h =
     let w = edge_width points few l.edge h.edge in
     let a = w.0 in
@@ -71,6 +75,7 @@ diamond_short Off = omega arith
 
 method_short : (m : Method) → length (method_word m) ≤ 5
 method_short Flips = omega arith
+method_short Faces = omega arith
 
 count_short : (word : List ℕ) (n : ℕ) → length word ≤ 20 → n < 2 ^ 32 → width (word ∷ decimal n ∷ []) ≤ 120
 count_short word n few h = let l = number_short n h in omega (arith, l)
@@ -127,17 +132,17 @@ tail_short r is =
 
 -- the sum of the parts
 sum_short : (all head points hull candidates live skeleton tris tail p u l s t : ℕ) → all ≡ head + ((points + (hull + candidates)) + ((live + (skeleton + tris)) + tail))
-    → head ≤ 121 * 4 → points ≤ 121 + 121 * p → hull ≤ 121 + 121 * u → candidates ≤ 121 * 1 → live ≤ 121 + 121 * l → skeleton ≤ 121 + 23 * s → tris ≤ 121 + 121 * t → tail ≤ 121 * 5
-    → p ≤ most_points → u ≤ most_points → l ≤ most_edges → s ≤ most_edges → t ≤ most_tiles → all ≤ most_bytes
+    → head ≤ 121 * 4 → points ≤ 121 + 36 * p → hull ≤ 121 + 6 * u → candidates ≤ 121 * 1 → live ≤ 121 + 76 * l → skeleton ≤ 121 + 11 * s → tris ≤ 121 + 16 * t → tail ≤ 121 * 5
+    → p ≤ most_points → u ≤ most_points → l ≤ most_edges → s ≤ most_edges → t ≤ most_tiles → all < 36 * 10 ^ 6
 sum_short all head points hull candidates live skeleton tris tail p u l s t e h1 h2 h3 h4 h5 h6 h7 h8 hp hu hl hs ht = omega arith
 
 counts_low : (p u l s t c : ℕ) → p < most_points + 1 → u < p + 1 → l ≤ most_edges → s ≤ most_edges → t ≤ most_tiles → c ≤ most_edges
     → (p < 2 ^ 32) × (u < 2 ^ 32) × (l < 2 ^ 32) × (s < 2 ^ 32) × (t < 2 ^ 32) × (c < 2 ^ 32) × (p ≤ most_points) × (u ≤ most_points)
 counts_low p u l s t c hp hu hl hs ht hc = (omega arith, omega arith, omega arith, omega arith, omega arith, omega arith, omega arith, omega arith)
 
-pub report_short : (r : Report) → IsWithin r → length (report_text r) ≤ most_bytes
+pub text_short : (r : Report) → IsWithin r → length (report_text r) < 36 * 10 ^ 6
 unfolding report_lines
-report_short r is =
+text_short r is =
     let few = counts_low (length r.points) (length r.hull) (length r.live) (length r.skeleton) (length r.tris) r.candidates
     is.points_count.most is.hull_count.most is.live_count is.skeleton_count is.tris_count is.candidates in
     let points = block (codes "points") point_fields r.points in
@@ -149,12 +154,12 @@ report_short r is =
     let text = parts (head_lines r) points hull candidates live skeleton tris (tail_lines r) in
     sum_short _ _ _ _ _ _ _ _ _ (length r.points) (length r.hull) (length r.live) (length r.skeleton) (length r.tris) text
     (head_short r is).is
-    (block_short (codes "points") point_fields IsPointRow 120 (omega arith) point_short r.points few.0 is.points)
-    (block_short (codes "hull") hull_fields (IsHullRow (length r.points)) 120 (omega arith) (hull_short (length r.points) few.0) r.hull few.1 is.hull)
+    (block_short (codes "points") point_fields IsPointRow 35 (omega arith) point_short r.points few.0 is.points)
+    (block_short (codes "hull") hull_fields (IsHullRow (length r.points)) 5 (omega arith) (hull_short (length r.points) few.6) r.hull few.1 is.hull)
     (more_short (codes "candidates" ∷ decimal r.candidates ∷ []) (count_short (codes "candidates") r.candidates (omega arith) few.5) none_short).is
-    (block_short (codes "live") live_fields (IsLiveRow r.version (length r.points)) 120 (omega arith) (live_short r.version (length r.points) few.0) r.live few.2 is.live)
-    (block_short (codes "skeleton") edge_fields (IsEdgeRow (length r.points)) 22 (omega arith) (edge_short (length r.points) few.0) r.skeleton few.3 is.skeleton)
-    (block_short (codes "triangles") tri_fields (IsTriRow (length r.points)) 120 (omega arith) (tri_short (length r.points) few.0) r.tris few.4 is.tris)
+    (block_short (codes "live") live_fields (IsLiveRow r.version (length r.points)) 75 (omega arith) (live_short r.version (length r.points) few.6) r.live few.2 is.live)
+    (block_short (codes "skeleton") edge_fields (IsEdgeRow (length r.points)) 10 (omega arith) (edge_short (length r.points) few.6) r.skeleton few.3 is.skeleton)
+    (block_short (codes "triangles") tri_fields (IsTriRow (length r.points)) 15 (omega arith) (tri_short (length r.points) few.6) r.tris few.4 is.tris)
     (tail_short r is).is
     few.6 few.7 is.live_count is.skeleton_count is.tris_count where
       parts : (h p u c l s t z : List (List ℕ))
@@ -170,3 +175,7 @@ report_short r is =
           let g = text_length l (s ++ t) in
           let i = text_length s t in
           omega (arith, a, b, d, e, f, g, i)
+
+-- so it is within the limit on input
+pub report_short : (r : Report) → IsWithin r → length (report_text r) ≤ most_bytes
+report_short r is = let short = text_short r is in omega (arith, short)

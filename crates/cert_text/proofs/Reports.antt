@@ -1,5 +1,5 @@
 -- A report that is read is the one whose text it is.
-use Rattle.std.proofs.Common.{◌≡◌, ℕ, ◌^◌, Bool, true, false, cond, eqb, List, [], ◌++◌, length, Result, Ok, Err, refl, sym, ap, subst, ◌∙◌}
+use Rattle.std.proofs.Common.{◌≡◌, ℕ, ◌^◌, Bool, true, false, cond, eqb, List, [], ◌++◌, length, Result, Ok, Err, inl, inr, refl, sym, ap, subst, ◌∙◌, arith}
 use Rattle.std.specs.Prelude.{IfOk}
 use Rattle.std.proofs.lemmas.Bool.{eqb-true}
 use Rattle.std.proofs.lemmas.List.{append-nil, nil_from_length}
@@ -27,6 +27,7 @@ use Rattle.cert_text.proofs.ListParts.{IsPointPart, IsEdgePart, points_of, edges
 use Rattle.cert_text.proofs.Orders.{AllPairs-chain, IsChain-pairs}
 use Rattle.cert_text.proofs.RowOrders.{LivePrecedes-trans, TriFollows-trans}
 use Rattle.cert_text.proofs.Taking.{Took, took_then, text_then, bind_ok, ok_is, Reaches}
+use Rattle.cert_text.proofs.WordKinds.{HasMethod}
 
 -- a report is within its ranges by its parts
 within_from : (h : Head) (p : PointPart) (d : EdgePart) (t : Tail) → IsHead h → IsPointPart p → IsEdgePart h.version (length p.points) d → IsTail h.version t
@@ -50,6 +51,7 @@ within_from h p d t head points edges tail = record {
   tris_count = at_most most_tiles (length d.tris) edges.tris_count;
   tris = All-from_recursion (IsTriRow (length p.points)) d.tris edges.tris;
   tris_ascend = AllPairs-chain TriFollows TriFollows-trans d.tris edges.tris_ascend;
+  method = λ one. elim tail.method.is [ inl flips ↦ flips | inr two ↦ absurd (omega arith) ];
   lo = tail.ends.lo;
   hi = tail.ends.hi;
   bound = tail.bound;
@@ -79,6 +81,10 @@ parts_text : (h p d t : List (List ℕ)) (rest : List ℕ)
 parts_text h p d t rest =
     text_then h (p ++ (d ++ t)) rest ∙ ap (λ (x : List ℕ). lines_text h ++ x)
     (text_then p (d ++ t) rest ∙ ap (λ (x : List ℕ). lines_text p ++ x) (text_then d t rest))
+
+-- only version 2 has another method than flips
+has_method : (r : Report) → IsWithin r → HasMethod r.version r.method
+has_method r is = record { is = elim is.version [ inl one ↦ inl (is.method one) | inr two ↦ inr two ] }
 
 -- a report within its ranges is read from its text, whatever follows
 pub report_found : (r : Report) → IsWithin r → (rest : List ℕ) → Reaches (report_at (report_text r ++ rest)) r rest
@@ -113,7 +119,7 @@ report_found r is rest =
       tris = recursion_from_All (IsTriRow (length r.points)) r.tris is.tris;
       tris_ascend = IsChain-pairs TriFollows r.tris is.tris_ascend;
     }) p.number behind_edges in
-    let t = tail_found r.version tail (record { ends = record { lo = is.lo; hi = is.hi }; bound = is.bound; gap = is.gap }) d.number rest in
+    let t = tail_found r.version tail (record { method = has_method r is; ends = record { lo = is.lo; hi = is.hi }; bound = is.bound; gap = is.gap }) d.number rest in
     record { number = t.number; is = ap report_at text ∙ rw (h.is, p.is, d.is, t.is) refl }
 
 ended_ok : (x : Report × Place) (r : Report) → ended x ≡ Ok r → (x.0 ≡ r) × (x.1.rest ≡ [])

@@ -5,14 +5,14 @@ use Rattle.std.proofs.lemmas.Fmt.{length-decimal-le}
 use Rattle.std.proofs.lemmas.Grind.{flat_map-append}
 use Rattle.std.proofs.lemmas.List.{length-append}
 use Rattle.std.proofs.lemmas.List.Concat.{flat_map-cons}
-use Rattle.mwt_base.specs.Limits.{most_amount, most_coordinate}
+use Rattle.mwt_base.specs.Limits.{most_amount, most_anchor, most_coordinate, most_price}
 use Rattle.mwt_base.specs.Line.{line}
 use Rattle.length_enclosure.specs.Amount.{amount, amount_size, six_digits}
 use Rattle.length_enclosure.proofs.Amounts.{amount_size_is}
 use Rattle.cert_text.specs.Texts.{spaced, lines_text, block}
 use Rattle.cert_text.proofs.Taking.{row_lines}
 
--- how many bytes fields take, with a byte behind each
+-- how many bytes fields take, with a byte after each
 abbrev pub width : List (List ℕ) → ℕ
 width [] = 0
 width (f ∷ fs) = length f + 1 + width fs
@@ -25,18 +25,36 @@ spaced_short (f ∷ g ∷ gs) = omega (arith, length-append f (32 ∷ spaced (g 
 pub number_short : (n : ℕ) → n < 2 ^ 32 → length (decimal n) ≤ 10
 number_short n h = length-decimal-le 10 n (omega arith) (omega arith) (omega arith)
 
+-- the number of a point
+pub index_short : (n : ℕ) → n < 10 ^ 4 → length (decimal n) ≤ 4
+index_short n h = length-decimal-le 4 n (omega arith) (omega arith) (omega arith)
+
 pub coordinate_short : (n : ℤ) → unsigned_abs n ≤ most_coordinate → length (signed_decimal n) ≤ 11
 coordinate_short (pos n) h = let l = number_short n (omega arith) in omega arith
 coordinate_short (negsuc n) h = let l = number_short (suc n) (omega arith) in omega arith
 
-size_short : (n : ℕ) → n ≤ most_amount → length (amount_size n) ≤ 27
-size_short n h =
-    let w : length (decimal (n / 10 ^ 6)) ≤ 20 = length-decimal-le 20 (n / 10 ^ 6) (omega arith) (omega arith) (omega arith) in
+-- an amount whose whole units have at most k digits
+size_short : (k n : ℕ) → 0 < k → n / 10 ^ 6 < 10 ^ k → n ≤ most_amount → length (amount_size n) ≤ k + 7
+size_short k n some few h =
+    let w : length (decimal (n / 10 ^ 6)) ≤ k = length-decimal-le k (n / 10 ^ 6) some few (omega arith) in
     rw (amount_size_is n) (omega (arith, w, length-append (decimal (n / 10 ^ 6)) (46 ∷ six_digits (n % 10 ^ 6))))
 
+digits_short : (k : ℕ) (n : ℤ) → 0 < k → unsigned_abs n / 10 ^ 6 < 10 ^ k → unsigned_abs n ≤ most_amount → length (amount n) ≤ k + 8
+digits_short k (pos n) some few h = let l = size_short k n some few h in omega arith
+digits_short k (negsuc n) some few h = let l = size_short k (suc n) some few h in omega arith
+
 pub amount_short : (n : ℤ) → unsigned_abs n ≤ most_amount → length (amount n) ≤ 28
-amount_short (pos n) h = let l = size_short n h in omega arith
-amount_short (negsuc n) h = let l = size_short (suc n) h in omega arith
+amount_short n h = digits_short 20 n (omega arith) (omega arith) h
+
+pub price_short : (n : ℤ) → unsigned_abs n ≤ most_price → length (amount n) ≤ 20
+price_short n h = digits_short 12 n (omega arith) (omega arith) (omega arith)
+
+pub anchor_short : (n : ℤ) → unsigned_abs n ≤ most_anchor → length (amount n) ≤ 21
+anchor_short n h = digits_short 13 n (omega arith) (omega arith) (omega arith)
+
+-- an anchor that has no sign
+pub side_short : (n : ℕ) → n ≤ most_anchor → length (amount (pos n)) ≤ 20
+side_short n h = size_short 13 n (omega arith) (omega arith) (omega arith)
 
 -- the lines of rows, each of at most w bytes
 rows_short : {X : Type 0} (spell : X → List (List ℕ)) (In : X → Type 0) (w : ℕ) → ((x : X) → In x → width (spell x) ≤ w) → (xs : List X) → All In xs

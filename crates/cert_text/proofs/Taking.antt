@@ -19,7 +19,7 @@ use Rattle.cert_text.proofs.LineKinds.{IsKind}
 pub record Took (text : List ℕ) (lines : List (List ℕ)) (rest : List ℕ) : Type 0 where
   pub is : text ≡ lines_text lines ++ rest
 
--- the text of lines behind lines
+-- the text of lines after lines
 pub text_then : (xs ys : List (List ℕ)) (rest : List ℕ) → lines_text (xs ++ ys) ++ rest ≡ lines_text xs ++ (lines_text ys ++ rest)
 text_then xs ys rest = ap (λ (t : List ℕ). t ++ rest) (flat_map-append line xs ys) ∙ append_assoc (lines_text xs) (lines_text ys) rest
 
@@ -86,7 +86,7 @@ value_found {spell = spell} k x h n rest =
     let plain = k.plain x h in
     rw (cut_again 10 (spaced (spell x)) rest (line_free (spell x) plain), fields_back (spell x) (k.some x) plain, k.found x h) refl
 
--- each row stands behind the one before it, by the test
+-- each row comes after the one before it, by the test
 abbrev pub IsFollowed : {X : Type 0} → (X → X → Bool) → Option X → List X → Type 0
 IsFollowed may_follow last [] = Unit {0}
 IsFollowed may_follow last (x ∷ xs) = (is_behind may_follow last x ≡ true) × IsFollowed may_follow (Some x) xs

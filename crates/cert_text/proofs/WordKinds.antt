@@ -1,7 +1,7 @@
 -- The kinds of lines that begin with a word.
-use Rattle.std.proofs.Common.{◌≡◌, ℕ, ℤ, pos, ◌≤◌, ◌^◌, true, cond, List, [], ◌∷◌, unsigned_abs, inl, inr, refl, ap, subst, ◌∙◌, arith, decimal, codes, bytes_eq}
+use Rattle.std.proofs.Common.{◌≡◌, ◌⊎◌, ◌==◌, ◌&&◌, ℕ, ℤ, pos, ◌≤◌, ◌^◌, true, cond, List, [], ◌∷◌, unsigned_abs, inl, inr, refl, ap, subst, ◌∙◌, arith, decimal, codes, bytes_eq}
 use Rattle.std.specs.List.{list_all}
-use Rattle.std.proofs.lemmas.Bool.{and_parts, and_from}
+use Rattle.std.proofs.lemmas.Bool.{and_parts, and_from, eqb-true}
 use Rattle.std.proofs.lemmas.Int.{ints}
 use Rattle.mwt_base.specs.Limits.{most_amount, most_length}
 use Rattle.exact_predicates.specs.declared.diamond.Diamond.{Diamond}
@@ -10,7 +10,7 @@ use Rattle.length_enclosure.specs.Amount.{amount}
 use Rattle.cert_text.specs.declared.found.Found.{Found}
 use Rattle.cert_text.specs.declared.found.Found.TheVariants.{NotSpelled, Is}
 use Rattle.cert_text.specs.declared.report.Method.{Method}
-use Rattle.cert_text.specs.declared.report.Method.TheVariants.{Flips}
+use Rattle.cert_text.specs.declared.report.Method.TheVariants.{Flips, Faces}
 use Rattle.cert_text.specs.Lines.{count_in, diamond_in, method_in, length_end_in, length_in, amount_line_in, end_in}
 use Rattle.cert_text.specs.Texts.{diamond_word, method_word}
 use Rattle.cert_text.specs.Within.{IsFrom, IsUpto}
@@ -75,24 +75,39 @@ pub diamond_kind : IsKind diamond_in (λ d. codes "diamond" ∷ diamond_word d �
 diamond_kind = record { takes = diamond_takes; found = diamond_found; plain = diamond_plain; some = λ d. omega arith }
 
 -- how the triangulation was found
-method_takes : (fs : List (List ℕ)) (m : Method) → method_in fs ≡ Is m → (fs ≡ codes "method" ∷ method_word m ∷ []) × Any m
+pub record HasMethod (version : ℕ) (m : Method) : Type 0 where
+  pub is : (m ≡ Flips) ⊎ (version ≡ 2)
+
+method_takes : (version : ℕ) (fs : List (List ℕ)) (m : Method) → method_in version fs ≡ Is m → (fs ≡ codes "method" ∷ method_word m ∷ []) × HasMethod version m
 unfolding method_in
-method_takes (w ∷ t ∷ []) m e =
+method_takes version (w ∷ t ∷ []) m e =
     let k = tested _ _ m e in
-    let p = and_parts (bytes_eq w (codes "method")) (bytes_eq t (codes "flips")) k.0 in
-    subst (λ (x : Method). (w ∷ t ∷ [] ≡ codes "method" ∷ method_word x ∷ []) × Any x) (value_is Flips m k.1)
-    (two_fields _ _ _ _ (word_is w (codes "method") p.0) (word_is t (codes "flips") p.1), tt)
-method_takes fs m e = absurd cc
+    let first = word_is w (codes "method") k.0 in
+    let flips : Found Method = Is Flips in
+    let faces : Found Method = Is Faces in
+    let test = (version == 2) && bytes_eq t (codes "faces") in
+    elim (chosen (bytes_eq t (codes "flips")) flips (cond test faces NotSpelled) (Is m) k.1) [
+      | inl h ↦ subst (λ (x : Method). (w ∷ t ∷ [] ≡ codes "method" ∷ method_word x ∷ []) × HasMethod version x) (value_is Flips m h.1)
+          (two_fields _ _ _ _ first (word_is t (codes "flips") h.0), record { is = inl refl })
+      | inr other ↦
+          let last = tested test faces m other.1 in
+          let p = and_parts (version == 2) (bytes_eq t (codes "faces")) last.0 in
+          subst (λ (x : Method). (w ∷ t ∷ [] ≡ codes "method" ∷ method_word x ∷ []) × HasMethod version x) (value_is Faces m last.1)
+          (two_fields _ _ _ _ first (word_is t (codes "faces") p.1), record { is = inr (eqb-true version 2 p.0) })
+    ]
+method_takes version fs m e = absurd cc
 
-method_found : (m : Method) → Any m → method_in (codes "method" ∷ method_word m ∷ []) ≡ Is m
+method_found : (version : ℕ) (m : Method) → HasMethod version m → method_in version (codes "method" ∷ method_word m ∷ []) ≡ Is m
 unfolding method_in
-method_found Flips h = refl
+method_found version Flips h = refl
+method_found version Faces h = elim h.is [ inl e ↦ absurd cc | inr two ↦ rw two refl ]
 
-method_plain : (m : Method) → Any m → list_all is_plain (codes "method" ∷ method_word m ∷ []) ≡ true
-method_plain Flips h = refl
+method_plain : (version : ℕ) (m : Method) → HasMethod version m → list_all is_plain (codes "method" ∷ method_word m ∷ []) ≡ true
+method_plain version Flips h = refl
+method_plain version Faces h = refl
 
-pub method_kind : IsKind method_in (λ m. codes "method" ∷ method_word m ∷ []) Any
-method_kind = record { takes = method_takes; found = method_found; plain = method_plain; some = λ m. omega arith }
+pub method_kind : (version : ℕ) → IsKind (method_in version) (λ m. codes "method" ∷ method_word m ∷ []) (HasMethod version)
+method_kind version = record { takes = method_takes version; found = method_found version; plain = method_plain version; some = λ m. omega arith }
 
 -- the two ends of an enclosure
 pub record AreEnds (ends : ℕ × ℕ) : Type 0 where

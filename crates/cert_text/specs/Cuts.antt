@@ -6,7 +6,7 @@ use Rattle.std.specs.List.{slice_split}
 abbrev pub is_byte : ℕ → ℕ → Bool
 is_byte byte b = b == byte
 
--- what stands before the first of these bytes and behind it, if there is one
+-- what stands before the first of these bytes and after it, if there is one
 unfoldable pub cut : ℕ → List ℕ → Option (List ℕ × List ℕ)
 cut byte text = option_map (λ n. (take n text, drop (n + 1) text)) (position (is_byte byte) text)
 

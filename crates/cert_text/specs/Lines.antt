@@ -13,7 +13,7 @@ use Rattle.cert_text.specs.declared.limits.Limits.{Limits}
 use Rattle.cert_text.specs.declared.report.LineKind.{LineKind}
 use Rattle.cert_text.specs.declared.report.LineKind.TheVariants.{Hull, Inner, Skeleton}
 use Rattle.cert_text.specs.declared.report.Method.{Method}
-use Rattle.cert_text.specs.declared.report.Method.TheVariants.{Flips}
+use Rattle.cert_text.specs.declared.report.Method.TheVariants.{Flips, Faces}
 use Rattle.cert_text.specs.declared.report.PriceLine.{PriceLine}
 use Rattle.cert_text.specs.Found.{both, with_value}
 use Rattle.cert_text.specs.Numbers.{number_in, coordinate_in, amount_within, amount_upto}
@@ -107,9 +107,16 @@ unfoldable pub diamond_in : List (List ℕ) → Found Diamond
 diamond_in (w ∷ d ∷ []) = if bytes_eq w (codes "diamond") then diamond_of d else NotSpelled
 diamond_in _ = NotSpelled
 
-unfoldable pub method_in : List (List ℕ) → Found Method
-method_in (w ∷ m ∷ []) = if bytes_eq w (codes "method") && bytes_eq m (codes "flips") then Is Flips else NotSpelled
-method_in _ = NotSpelled
+-- how the triangulation was found; only version 2 has the method faces
+abbrev pub method_of : ℕ → List ℕ → Found Method
+method_of version word =
+    if bytes_eq word (codes "flips") then Is Flips
+    else if version == 2 && bytes_eq word (codes "faces") then Is Faces
+    else NotSpelled
+
+unfoldable pub method_in : ℕ → List (List ℕ) → Found Method
+method_in version (w ∷ m ∷ []) = if bytes_eq w (codes "method") then method_of version m else NotSpelled
+method_in version _ = NotSpelled
 
 abbrev pub length_end_in : List ℕ → Found ℤ
 length_end_in text = amount_within (pos 0) (pos most_length) text

@@ -1,5 +1,5 @@
 -- What a field says that is to be a number or an amount within a range.
-use Rattle.std.specs.Prelude.{ℕ, ℤ, pos, neg_ℤ, ◌^◌, Bool, not, ◌&&◌, List, unsigned_abs, nat_lt, nat_le, int_le, if◌then◌else◌}
+use Rattle.std.specs.Prelude.{ℕ, ℤ, pos, neg_ℤ, Bool, not, ◌&&◌, List, unsigned_abs, nat_lt, nat_le, int_le, if◌then◌else◌}
 use Rattle.mwt_base.specs.Limits.{most_coordinate}
 use Rattle.length_enclosure.specs.declared.units.Units.{Units}
 use Rattle.length_enclosure.specs.declared.units.Units.TheVariants as units

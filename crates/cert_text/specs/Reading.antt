@@ -29,7 +29,7 @@ pub record Place : Type 0 where
   pub number : ℕ
   pub rest : List ℕ
 
--- the next line, without its LF, and the place behind it
+-- the next line, without its LF, and the place after it
 abbrev pub line_by : ℕ → Option (List ℕ × List ℕ) → Result (List ℕ × Place) Refusal2
 line_by number None = Err (refused number Truncated)
 line_by number (Some parts) = Ok (parts.0, record { number = number + 1; rest = parts.1 })
@@ -50,7 +50,7 @@ value_at says p = do
   x ← judged p.number (says (fields line.0))
   Ok (x, line.1)
 
--- a row stands behind the last one
+-- a row comes after the last one
 abbrev pub is_behind : {X : Type 0} → (X → X → Bool) → Option X → X → Bool
 is_behind may_follow None x = true
 is_behind may_follow (Some last) x = may_follow last x
@@ -61,7 +61,7 @@ row_at says may_follow last p = do
   x ← value_at says p
   if is_behind may_follow last x.0 then Ok x else Err (refused p.number Order)
 
--- so many rows of a list, behind the last one
+-- so many rows of a list, after the last one
 unfoldable pub rows_at : {X : Type 0} → (List (List ℕ) → Found X) → (X → X → Bool) → Option X → ℕ → Place → Result (List X × Place) Refusal2
 rows_at says may_follow last zero p = Ok ([], p)
 rows_at says may_follow last (suc n) p = do

@@ -12,7 +12,7 @@ use Rattle.length_enclosure.specs.Amount.{amount}
 use Rattle.cert_text.specs.declared.report.LineKind.{LineKind}
 use Rattle.cert_text.specs.declared.report.LineKind.TheVariants.{Hull, Inner, Skeleton}
 use Rattle.cert_text.specs.declared.report.Method.{Method}
-use Rattle.cert_text.specs.declared.report.Method.TheVariants.{Flips}
+use Rattle.cert_text.specs.declared.report.Method.TheVariants.{Flips, Faces}
 use Rattle.cert_text.specs.declared.report.PriceLine.{PriceLine}
 use Rattle.cert_text.specs.declared.report.Report.{Report}
 
@@ -68,6 +68,7 @@ diamond_word Off = codes "off"
 
 abbrev pub method_word : Method → List ℕ
 method_word Flips = codes "flips"
+method_word Faces = codes "faces"
 
 -- the lines before the blocks
 abbrev pub head_lines : Report → List (List ℕ)
@@ -86,7 +87,7 @@ length_lines r =
     ∷ spaced (codes "gap" ∷ amount r.gap ∷ [])
     ∷ []
 
--- the lines behind the blocks
+-- the lines after the blocks
 abbrev pub tail_lines : Report → List (List ℕ)
 tail_lines r =
     spaced (codes "method" ∷ method_word r.method ∷ [])

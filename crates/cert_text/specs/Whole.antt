@@ -23,10 +23,10 @@ head_at bytes = do
   merged ← value_at (count_in (codes "merged") 0 (2 ^ 32)) unit.1
   Ok (record { version = version.0; diamond = diamond.0; unit = unit.0; merged = merged.0 }, merged.1)
 
--- the lines behind the lists
+-- the lines after the lists
 unfoldable pub tail_at : ℕ → Place → Result (Tail × Place) Refusal2
 tail_at version p = do
-  method ← value_at method_in p
+  method ← value_at (method_in version) p
   length ← value_at length_in method.1
   bound ← value_at (amount_line_in (codes "bound") (most_bound version)) length.1
   gap ← value_at (amount_line_in (codes "gap") (most_bound version)) bound.1

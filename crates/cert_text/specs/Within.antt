@@ -1,5 +1,5 @@
 -- The ranges of a report, and the orders of its lists.
-use Rattle.std.specs.Prelude.{◌≡◌, ◌⊎◌, ℕ, ℤ, pos, neg_ℤ, ◌+◌, ◌^◌, ◌<◌, ◌≤◌, ◌≤ℤ◌, List, length, All, AllPairs}
+use Rattle.std.specs.Prelude.{◌≡◌, ◌⊎◌, ℕ, ℤ, pos, neg_ℤ, ◌+◌, ◌^◌, ◌<◌, ◌≤◌, ◌≤ℤ◌, length, All, AllPairs}
 use Rattle.mwt_base.specs.Limits.{most_anchor, most_edges, most_length, most_points, most_price, most_tiles, most_unit}
 use Rattle.exact_predicates.specs.declared.edge.Edge.{Edge}
 use Rattle.exact_predicates.specs.declared.point.Point.{Point}
@@ -8,6 +8,7 @@ use Rattle.exact_predicates.specs.Plane.{IsInRange, Precedes}
 use Rattle.exact_predicates.specs.Candidates.{EdgePrecedes, TriPrecedes}
 use Rattle.cert_text.specs.declared.report.LineKind.{LineKind}
 use Rattle.cert_text.specs.declared.report.LineKind.TheVariants.{Hull, Inner, Skeleton}
+use Rattle.cert_text.specs.declared.report.Method.TheVariants.{Flips}
 use Rattle.cert_text.specs.declared.report.PriceLine.{PriceLine}
 use Rattle.cert_text.specs.declared.report.Report.{Report}
 use Rattle.cert_text.specs.Lines.{most_bound}
@@ -78,6 +79,7 @@ pub record IsWithin (r : Report) : Type 0 where
   pub tris_count : length r.tris ≤ most_tiles
   pub tris : All (IsTriRow (length r.points)) r.tris
   pub tris_ascend : AllPairs TriFollows r.tris
+  pub method : r.version ≡ 1 → r.method ≡ Flips
   pub lo : r.lo ≤ most_length
   pub hi : r.hi ≤ most_length
   pub bound : IsUpto (most_bound r.version) r.bound

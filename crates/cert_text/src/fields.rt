@@ -11,7 +11,7 @@ fn position_of(text: &[u8], byte: u8) -> Option<usize>
     text.iter().position(|b| *b == byte)
 }
 
-/// What stands before the first of these bytes and behind it.
+/// What stands before the first of these bytes and after it.
 #[tactic(auto, unfolding(crate::specs::Cuts::cut))]
 pub fn cut(text: &[u8], byte: u8) -> Option<(&[u8], &[u8])>
     ensures parts { option_map (λ parts. (parts.0.now, parts.1.now)) result ≡ cut byte text.now }

@@ -28,7 +28,7 @@ pub struct EdgePart {
     pub tris: Tris,
 }
 
-/// The lines behind the lists.
+/// The lines after the lists.
 #[derive(Clone, Copy)]
 pub struct Tail {
     pub method: Method,

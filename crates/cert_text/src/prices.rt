@@ -167,7 +167,7 @@ fn write_three(text: &mut Text, value: i64, left: i64, right: i64) -> Result<(),
     write_sides(text, left, right)
 }
 
-/// Appends the kind of a live edge and its amounts, behind the numbers of its ends.
+/// Appends the kind of a live edge and its amounts, after the numbers of its ends.
 pub fn write_prices(line: &PriceLine, text: &mut Text) -> Result<(), NoMemory>
     ensures { OnOk result (text.new ≡ text.old ++ 32 ∷ line_of (price_fields line.now.kind line.now.value line.now.left line.now.right)) }
 {

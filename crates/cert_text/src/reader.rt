@@ -52,7 +52,7 @@ fn version_by(line: &[u8]) -> Result<u32, ReportStop>
 impl<'a> Reader<'a> {
     ghost use Rattle.cert_text.specs.Places.{place};
 
-    /// The version that the first line of a text says, and what is behind it.
+    /// The version that the first line of a text says, and what is after it.
     #[tactic(auto, unfolding(crate::specs::Reading::line_at, crate::specs::Reading::version_at))]
     pub fn of(bytes: &'a [u8]) -> Result<(u32, Reader<'a>), ReportStop>
         requires { length bytes.now < 2 ^ 32 }
@@ -103,12 +103,12 @@ impl<'a> Reader<'a> {
 
     /// A line that says how the triangulation was found.
     #[tactic(auto, unfolding(crate::specs::Reading::value_at))]
-    pub fn method(&mut self) -> Result<Method, ReportStop>
-        ensures { Gives (λ m. (m, place self.new)) result (value_at method_in (place self.old)) }
+    pub fn method(&mut self, version: u32) -> Result<Method, ReportStop>
+        ensures { Gives (λ m. (m, place self.new)) result (value_at (method_in version) (place self.old)) }
     {
         let number = self.number;
         let line = self.line()?;
-        judged(number, method_in(line))
+        judged(number, method_in(version, line))
     }
 
     /// A line with the two ends of an enclosure.
@@ -199,7 +199,7 @@ impl<'a> Reader<'a> {
     }
 }
 
-// Whether a row may stand behind the last one.
+// Whether a row may come after the last one.
 fn is_behind<R: Row>(last: Option<R>, row: R) -> bool
     ensures { result ≡ is_behind R.may_follow last row }
 {

@@ -11,7 +11,7 @@ pub struct Refusal2 {
     pub line: u32,
 }
 
-/// Why there is no report: the text is refused, or want of memory.
+/// Why there is no report: the text is refused, or memory ran out.
 #[derive(Clone, Copy, Debug, PartialEq, Eq)]
 pub enum ReportStop {
     Refused(Refusal2),
@@ -45,13 +45,13 @@ pub enum Reason {
     Version = 30,
     /// A line has not the words, the number of fields or the spelling of its place.
     Line = 31,
-    /// A line is not behind the line before it in the order of its list.
+    /// A line is not after the line before it in the order of its list.
     Order = 32,
     /// A number or an amount is out of its range.
     Range = 33,
     /// The text ends where a line should begin, or this line has no LF.
     Truncated = 34,
-    /// Bytes stand behind the last line.
+    /// Bytes come after the last line.
     AfterEnd = 35,
 }
 

@@ -26,10 +26,12 @@ pub struct PriceLine {
 /// The live edges of a report.
 pub type PriceLines = ItemList<PriceLine>;
 
-/// How a triangulation was found.
+/// How a triangulation was found: by flips that shorten it; or face by face of the skeleton, each by interval
+/// programming.
 #[derive(Clone, Copy, Debug, PartialEq, Eq)]
 pub enum Method {
     Flips,
+    Faces,
 }
 
 /// A set of points in order, its hull, how many candidate edges it has, its live edges with a price split,

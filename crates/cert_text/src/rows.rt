@@ -21,7 +21,7 @@ pub trait Row: Copy {
     /// What a line says, by its fields.
     ghost says: { limits_type → List (List ℕ) → found_type Self };
 
-    /// Whether a row may stand behind another.
+    /// Whether a row may come after another.
     ghost may_follow: { Self → Self → Bool };
 
     /// The fields of its line.

@@ -48,12 +48,12 @@ fn most_bound(version: u32) -> u128
     }
 }
 
-// Reads the lines behind the lists.
+// Reads the lines after the lists.
 #[tactic(auto, unfolding(crate::specs::Whole::tail_at))]
 fn tail(reader: &mut Reader, version: u32) -> Result<Tail, ReportStop>
     ensures { Gives (λ tail. (tail, place reader.new)) result (tail_at version (place reader.old)) }
 {
-    let method = reader.method()?;
+    let method = reader.method(version)?;
     let (lo, hi) = reader.length()?;
     let most = most_bound(version);
     let bound = reader.amount(b"bound", most)?;

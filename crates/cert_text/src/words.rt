@@ -3,7 +3,7 @@ ghost use Rattle.std.specs.Prelude.{◌≡◌, ◌≤◌, ◌^◌, pos, neg_ℤ,
 ghost use Rattle.mwt_base.specs.Limits.{most_amount};
 ghost use Rattle.cert_text.specs.Cuts.{fields};
 ghost use Rattle.cert_text.specs.Found.{IfIs};
-ghost use Rattle.cert_text.specs.Lines.{count_in, diamond_of, diamond_in, method_in, length_in, amount_line_in, end_in};
+ghost use Rattle.cert_text.specs.Lines.{count_in, diamond_of, diamond_in, method_of, method_in, length_in, amount_line_in, end_in};
 
 use crate::fields::{Fields, is_word};
 use crate::found::Found;
@@ -62,10 +62,22 @@ pub fn diamond_in(line: &[u8]) -> Found<Diamond>
     diamond_of(word)
 }
 
-/// How the triangulation was found.
+fn method_of(version: u32, word: &[u8]) -> Found<Method>
+    ensures { result ≡ method_of version word.now }
+{
+    if is_word(word, b"flips") {
+        Found::Is(Method::Flips)
+    } else if version == 2 && is_word(word, b"faces") {
+        Found::Is(Method::Faces)
+    } else {
+        Found::NotSpelled
+    }
+}
+
+/// How the triangulation was found. Only version 2 has the method faces.
 #[tactic(auto, unfolding(crate::specs::Lines::method_in))]
-pub fn method_in(line: &[u8]) -> Found<Method>
-    ensures { result ≡ method_in (fields line.now) }
+pub fn method_in(version: u32, line: &[u8]) -> Found<Method>
+    ensures { result ≡ method_in version (fields line.now) }
 {
     let mut fields = Fields::of(line);
     let Some(first) = fields.next() else {
@@ -74,10 +86,10 @@ pub fn method_in(line: &[u8]) -> Found<Method>
     let Some(word) = fields.next() else {
         return Found::NotSpelled;
     };
-    if fields.next().is_some() || !is_word(first, b"method") || !is_word(word, b"flips") {
+    if fields.next().is_some() || !is_word(first, b"method") {
         return Found::NotSpelled;
     }
-    Found::Is(Method::Flips)
+    method_of(version, word)
 }
 
 /// The two ends of an enclosure.

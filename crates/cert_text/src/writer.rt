@@ -26,6 +26,7 @@ fn method_word(method: Method) -> &'static str
 {
     match method {
         Method::Flips => "flips",
+        Method::Faces => "faces",
     }
 }
 
@@ -110,7 +111,7 @@ fn write_lengths(text: &mut Text, report: &Report) -> Result<(), NoMemory>
     Ok(())
 }
 
-// The lines behind the lists.
+// The lines after the lists.
 fn write_tail(text: &mut Text, report: &Report) -> Result<(), NoMemory>
     requires lo { report.now.lo ≤ most_length }
     requires hi { report.now.hi ≤ most_length }

@@ -57,7 +57,8 @@ fn lines_that_fail(rt: HostRuntime) -> Result<(), Fail> {
         (21, "1 2 i 0.00000", 31),
         (36, "0 1 1", 33),
         (37, "1 2 4", 32),
-        (38, "method faces", 31),
+        (38, "method sweep", 31),
+        (38, "method faces ", 31),
         (39, "length -0.000001 1.000000", 33),
         (40, "bound 1000000000000000000.000001", 33),
         (41, "gap", 31),
@@ -88,6 +89,7 @@ fn lines_that_do_not_fail(rt: HostRuntime) -> Result<(), Fail> {
         (21, "1 2 i 400000000000.000000"),
         (21, "1 2 s -7.335086 0.000000 1000000000000.000000"),
         (36, "0 1 2"),
+        (38, "method faces"),
         (40, "bound -1000000000000000000.000000"),
     ];
     for (place, line) in table {
@@ -98,10 +100,13 @@ fn lines_that_do_not_fail(rt: HostRuntime) -> Result<(), Fail> {
 }
 
 #[test]
-fn version_1_has_no_skeleton_lines_and_smaller_bounds(rt: HostRuntime) -> Result<(), Fail> {
+fn version_1_has_no_skeleton_lines_no_faces_and_smaller_bounds(
+    rt: HostRuntime,
+) -> Result<(), Fail> {
     let alloc = rt.alloc();
     let table = [
         (21, "1 2 s -7.335086 0.000000 0.000000", 31),
+        (38, "method faces", 31),
         (40, "bound 20000000000000000.000001", 33),
     ];
     for (place, line, code) in table {

@@ -1,7 +1,7 @@
 // Texts that are read and written again.
 
 use super::{bytes_of, failed};
-use crate::{LineKind, read_report, write_report};
+use crate::{LineKind, Method, read_report, write_report};
 use exact_predicates::Diamond;
 use std::test::Fail;
 
@@ -129,6 +129,52 @@ gap 0.000007\n\
 end\n\
 ";
 
+// The same points, triangulated face by face.
+pub const FIVE_BY_FACES: &str = "\
+mwt 2\n\
+diamond off\n\
+unit 0\n\
+merged 0\n\
+points 5\n\
+1 0 0\n\
+2 2 -2\n\
+5 5 1\n\
+3 7 -3\n\
+4 10 0\n\
+hull 5\n\
+0\n\
+1\n\
+3\n\
+4\n\
+2\n\
+candidates 10\n\
+live 7\n\
+0 1 h 2.828427\n\
+0 2 h 5.099019\n\
+1 2 s 2.121320 2.121320 2.121320\n\
+1 3 h 5.099019\n\
+2 3 s 2.236067 2.236068 2.236067\n\
+2 4 h 5.099019\n\
+3 4 h 4.242640\n\
+skeleton 7\n\
+0 1\n\
+0 2\n\
+1 2\n\
+1 3\n\
+2 3\n\
+2 4\n\
+3 4\n\
+triangles 3\n\
+0 1 2\n\
+1 3 2\n\
+2 3 4\n\
+method faces\n\
+length 31.082899 31.082906\n\
+bound 31.082899\n\
+gap 0.000007\n\
+end\n\
+";
+
 // Five points, of which two edges have an anchor on one side.
 pub const SPOKES: &str = "\
 mwt 2\n\
@@ -182,7 +228,7 @@ end\n\
 #[test]
 fn texts_are_read_and_written_again(rt: HostRuntime) -> Result<(), Fail> {
     let alloc = rt.alloc();
-    for text in [TRIANGLE, FIVE_OF_VERSION_1, FIVE, SPOKES] {
+    for text in [TRIANGLE, FIVE_OF_VERSION_1, FIVE, FIVE_BY_FACES, SPOKES] {
         let report = read_report(alloc, &bytes_of(alloc, text)?).map_err(failed)?;
         let again = write_report(alloc, &report).map_err(|_| Fail::from("no memory"))?;
         assert_eq!(rt; again.as_slice(), text.as_bytes());
@@ -199,6 +245,7 @@ fn what_a_report_says(rt: HostRuntime) -> Result<(), Fail> {
     assert_eq!(rt; report.hull.as_slice(), [0, 1, 3, 4, 2].as_slice());
     assert_eq!(rt; report.candidates, 10);
     assert_eq!(rt; report.tris.len(), 3);
+    assert_eq!(rt; report.method, Method::Flips);
     assert_eq!(rt; report.lo, 31_082_899);
     assert_eq!(rt; report.gap, 7);
     assert_eq!(rt; report.live.len(), 7);
@@ -207,5 +254,20 @@ fn what_a_report_says(rt: HostRuntime) -> Result<(), Fail> {
     assert_eq!(rt; line.edge.b, 2);
     assert_eq!(rt; line.value, -7_335_086);
     assert_eq!(rt; line.left, 0);
+    Ok(())
+}
+
+#[test]
+fn what_a_report_by_faces_says(rt: HostRuntime) -> Result<(), Fail> {
+    let alloc = rt.alloc();
+    let report = read_report(alloc, &bytes_of(alloc, FIVE_BY_FACES)?).map_err(failed)?;
+    assert_eq!(rt; report.method, Method::Faces);
+    assert_eq!(rt; report.live.len(), 7);
+    let line = report.live.get(4);
+    assert_eq!(rt; line.kind, LineKind::Skeleton);
+    assert_eq!(rt; line.value, 2_236_067);
+    assert_eq!(rt; line.left, 2_236_068);
+    assert_eq!(rt; line.right, 2_236_067);
+    assert_eq!(rt; report.bound, 31_082_899);
     Ok(())
 }
