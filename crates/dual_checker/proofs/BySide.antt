@@ -38,7 +38,7 @@ rises_to hs s sorted = searchable_from_sorted side_total (λ (h : HalfEdge). h.s
 like : (p q : HalfEdge → Bool) (hs : List HalfEdge) → ((h : HalfEdge) → p h ≡ q h) → IsPartitionedBy p hs → IsPartitionedBy q hs
 like p q hs same parts = λ i j d before inside e. sym (same (get_or hs i d)) ∙ parts i j d before inside (same (get_or hs j d) ∙ e)
 
--- whether a half-edge is before a side, or not behind it
+-- whether a half-edge is before a side, or not after it
 abbrev pub is_before : Side → HalfEdge → Bool
 is_before s h = is_lt (side_cmp h.side s)
 

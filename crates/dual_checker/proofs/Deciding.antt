@@ -2,6 +2,8 @@
 use Rattle.std.proofs.Common.{◌≡◌, ◌<◌, Bool, true, false, not, IsTrue, ◌↔◌, List, All, Contains, filter, sym, ap, subst, ◌∙◌, arith, inl, inr}
 use Rattle.std.proofs.lemmas.Bool.{false≢true}
 use Rattle.exact_predicates.specs.declared.point.Point.{Point}
+use Rattle.cert_text.specs.declared.report.Method.{Method}
+use Rattle.cert_text.specs.declared.report.Method.TheVariants.{Flips}
 use Rattle.dual_checker.specs.declared.half_edges.HalfEdge.{HalfEdge}
 use Rattle.dual_checker.specs.declared.half_edges.Side.{Side}
 use Rattle.dual_checker.specs.HalfEdges.{HasMinimal, IsMinimalAt, AreFitting, IsCoveredOnce, IsBalancedAt, is_on, reversed}
@@ -20,10 +22,10 @@ minimal_decides ps halves lefts rights rim s t has r up says away turned is_left
       ],
     )
 
--- three tests of half-edges
-pub fitting_decides : (ps : List Point) (halves : List HalfEdge) (rim : List Side) (r : Bool) → All (IsCoveredOnce halves) rim → All (λ h. IsBalancedAt halves rim h.side) halves
-    → (IsTrue r ↔ All (λ h. IsMinimalAt ps halves rim h.side) halves) → IsTrue r ↔ AreFitting ps halves rim
-fitting_decides ps halves rim r covered balanced says = (
+-- three tests of half-edges, of which the last is made where the method is flips
+pub fitting_decides : (ps : List Point) (halves : List HalfEdge) (rim : List Side) (method : Method) (r : Bool) → All (IsCoveredOnce halves) rim → All (λ h. IsBalancedAt halves rim h.side) halves
+    → (IsTrue r ↔ (method ≡ Flips → All (λ h. IsMinimalAt ps halves rim h.side) halves)) → IsTrue r ↔ AreFitting ps halves rim method
+fitting_decides ps halves rim method r covered balanced says = (
   λ q. record { covered = covered; balanced = balanced; minimal = says.0 q },
   λ fit. says.1 fit.minimal,
 )

@@ -1,4 +1,4 @@
--- Half-edges that fit are those of a flip-minimal triangulation.
+-- Half-edges that fit are those of a triangulation, and of a flip-minimal one where the method is flips.
 use Rattle.std.proofs.Common.{◌≡◌, ℕ, ◌+◌, ◌*◌, ◌<◌, Bool, IsTrue, ◌↔◌, List, length, get_or, All, Any, IsPermutation, Contains, sym, subst, ap, ◌∙◌, arith, inl, inr}
 use Rattle.std.proofs.lemmas.List.Elements.{Contains-get_or}
 use Rattle.exact_predicates.specs.declared.point.Point.{Point}
@@ -48,16 +48,16 @@ tiles_read r ps tris count points same size counted empty corners = record {
 }
 
 pub decides_triangulation : (r : Report) (halves : List HalfEdge) (rim : List Side) (b : Bool) → AreOf r.hull r.tris halves rim → AreTiles r.points r.hull r.tris
-    → (IsTrue b ↔ AreFitting r.points halves rim) → IsTrue b ↔ HasTriangulation r
+    → (IsTrue b ↔ AreFitting r.points halves rim r.method) → IsTrue b ↔ HasTriangulation r
 decides_triangulation r halves rim b are tiles says = (
   λ t. let fit = says.0 t in record {
     triangulation = IsTriangulation-tests r.points r.hull r.tris halves rim are (record { empty = tiles.empty; count = tiles.count; corners = tiles.corners; covered = fit.covered; balanced = fit.balanced });
-    minimal = IsFlipMinimal-tests r.points r.hull r.tris halves rim are fit.minimal;
+    minimal = λ flips. IsFlipMinimal-tests r.points r.hull r.tris halves rim are (fit.minimal flips);
   },
   λ h. let tests = tests-IsTriangulation r.points r.hull r.tris halves rim are h.triangulation in says.1 (record {
     covered = tests.covered;
     balanced = tests.balanced;
-    minimal = tests-IsFlipMinimal r.points r.hull r.tris halves rim are h.minimal;
+    minimal = λ flips. tests-IsFlipMinimal r.points r.hull r.tris halves rim are (h.minimal flips);
   }),
 )
 

@@ -36,7 +36,7 @@ hulls_differ r ps found xs ys differ set points is first second says other = λ 
 
 -- where the first two parts hold
 verdict_valid : (r : Report) → IsWithin r → HasPoints r → HasHull r → IsFirstToFail 3 (edge_parts r) None → IsVerdict r Valid
-verdict_valid r is points hull (candidates, (live, (skeleton, (triangulation, (len, (marks, (slack, (bound, (gap, end))))))))) = record {
+verdict_valid r is points hull (candidates, (live, (skeleton, (triangulation, (len, (marks, (slack, (bound, (gap, (faces, end)))))))))) = record {
   within = is;
   points = points;
   hull = hull;
@@ -49,12 +49,13 @@ verdict_valid r is points hull (candidates, (live, (skeleton, (triangulation, (l
   slack = slack;
   bound = bound;
   gap = gap;
+  faces = faces;
 }
 
 verdict_broken : (r : Report) (k : ℕ) → HasPoints r → HasHull r → IsFirstToFail 3 (edge_parts r) (Some k) → IsVerdict r (Broken k)
 verdict_broken r k points hull fails = inr (points, inr (hull, fails))
 
--- the verdict, by the first part behind the hull that fails
+-- the verdict, by the first part after the hull that fails
 pub verdict_decides : (r : Report) (broken : Option ℕ) (v : Verdict) → IsWithin r → HasPoints r → HasHull r → IsFirstToFail 3 (edge_parts r) broken → v ≡ verdict_of broken → IsVerdict r v
 verdict_decides r None v is points hull first same = subst (IsVerdict r) (sym same) (verdict_valid r is points hull first)
 verdict_decides r (Some k) v is points hull first same = subst (IsVerdict r) (sym same) (verdict_broken r k points hull first)

@@ -2,6 +2,7 @@ mod AnchorSums
 mod BySide
 mod CornerMarks
 mod Deciding
+mod Derivings
 mod Filtered
 mod Fitting
 pub mod GoodBounds

@@ -1,5 +1,5 @@
--- The good report: what holds of a report that is right about its points. It has eleven parts, each a proposition about the
--- report alone. The parts behind the hull speak of the printed hull, and those behind the live list of the printed live
+-- The good report: what holds of a report that is right about its points. It has twelve parts, each a proposition about the
+-- report alone. The parts after the hull speak of the printed hull, and those after the live list of the printed live
 -- lines and skeleton: where the parts before them hold, these are the only ones.
 use Rattle.std.specs.Prelude.{◌≡◌, ◌≢◌, ◌⊎◌, ◌↔◌, ℕ, Bool, not, ◌==◌, cond, List, [], length, map, filter, All, AllPairs, Contains, pos, ◌-ℤ◌}
 use Rattle.exact_predicates.specs.declared.edge.Edge.{Edge}
@@ -15,6 +15,7 @@ use Rattle.lmt_network.specs.Numbers.{HasSide}
 use Rattle.lmt_network.specs.Prices.{Priced, IsLiveTriangle, IsFeasible, IsTight, bound, is_on_hull}
 use Rattle.lmt_network.specs.Skeleton.{AreSkeleton}
 use Rattle.cert_text.specs.declared.report.LineKind.TheVariants.{Hull, Skeleton}
+use Rattle.cert_text.specs.declared.report.Method.TheVariants.{Flips, Faces}
 use Rattle.cert_text.specs.declared.report.PriceLine.{PriceLine}
 use Rattle.cert_text.specs.declared.report.Report.{Report}
 use Rattle.cert_text.specs.Within.{IsWithin}
@@ -64,10 +65,10 @@ HasLive r = IsLive r.points r.hull r.diamond (live_edges_of r)
 abbrev pub HasSkeleton : Report → Type 0
 HasSkeleton r = AreSkeleton r.points (live_edges_of r) r.skeleton
 
--- 6, triangulation: the triangles are one of the points, and no flip makes an edge of it shorter
+-- 6, triangulation: the triangles are one of the points, and where the method is flips, no flip makes an edge of it shorter
 pub record HasTriangulation (r : Report) : Type 0 where
   pub triangulation : IsTriangulation r.points r.hull r.tris
-  pub minimal : IsFlipMinimal r.points r.hull r.tris
+  pub minimal : r.method ≡ Flips → IsFlipMinimal r.points r.hull r.tris
 
 -- 7, length: its two ends are those of the triangulation
 pub record HasLength (r : Report) : Type 0 where
@@ -105,9 +106,13 @@ pub record HasBound (r : Report) : Type 0 where
 abbrev pub HasGap : Report → Type 0
 HasGap r = r.gap ≡ pos r.hi -ℤ r.bound
 
--- the parts in their order: the last four, those behind the hull, and all
+-- 12, faces: where the method is faces, the bound is the lower end of the length of the triangulation
+abbrev pub HasFaces : Report → Type 0
+HasFaces r = r.method ≡ Faces → r.bound ≡ pos (lo r.points (edges r.hull r.tris))
+
+-- the parts in their order: the last five, those after the hull, and all
 abbrev pub price_parts : Report → Parts
-price_parts r = part (HasMarks r) (part (HasSlack r) (part (HasBound r) (part (HasGap r) done)))
+price_parts r = part (HasMarks r) (part (HasSlack r) (part (HasBound r) (part (HasGap r) (part (HasFaces r) done))))
 
 abbrev pub edge_parts : Report → Parts
 edge_parts r =
@@ -130,3 +135,4 @@ pub record IsGoodReport (r : Report) : Type 0 where
   pub slack : HasSlack r
   pub bound : HasBound r
   pub gap : HasGap r
+  pub faces : HasFaces r

@@ -7,6 +7,8 @@ use Rattle.exact_predicates.specs.declared.point.Point.{Point}
 use Rattle.exact_predicates.specs.declared.tri.Tri.{Tri}
 use Rattle.exact_predicates.specs.Flip.{IsMinimalBetween}
 use Rattle.exact_predicates.specs.Triangulation.{is_side}
+use Rattle.cert_text.specs.declared.report.Method.{Method}
+use Rattle.cert_text.specs.declared.report.Method.TheVariants.{Flips}
 use Rattle.dual_checker.specs.declared.half_edges.HalfEdge.{HalfEdge}
 use Rattle.dual_checker.specs.declared.half_edges.Side.{Side}
 
@@ -69,8 +71,8 @@ pub record IsWithinPoints (ps : List Point) (h : HalfEdge) : Type 0 where
   pub to : h.side.to < length ps
   pub apex : h.apex < length ps
 
--- half-edges fit one another and the pairs of the hull, and no flip makes one of them shorter
-pub record AreFitting (ps : List Point) (halves : List HalfEdge) (rim : List Side) : Type 0 where
+-- half-edges fit one another and the pairs of the hull, and where the method is flips, no flip makes one of them shorter
+pub record AreFitting (ps : List Point) (halves : List HalfEdge) (rim : List Side) (method : Method) : Type 0 where
   pub covered : All (IsCoveredOnce halves) rim
   pub balanced : All (λ h. IsBalancedAt halves rim h.side) halves
-  pub minimal : All (λ h. IsMinimalAt ps halves rim h.side) halves
+  pub minimal : method ≡ Flips → All (λ h. IsMinimalAt ps halves rim h.side) halves

@@ -1,4 +1,5 @@
 pub mod Corners
+pub mod Derived
 pub mod Elimination
 pub mod GoodReport
 pub mod HalfEdges

@@ -1,9 +1,10 @@
 // The network of a set of points, and which of its edges are live.
-ghost use Rattle.std.specs.Prelude.{◌≡◌, ◌≤◌, length, IfOk, OnOk, IsErrOf};
+ghost use Rattle.std.specs.Prelude.{◌≡◌, ◌≤◌, ℕ, List, length, IfOk, OnOk, IsErrOf};
 ghost use Rattle.mwt_base.specs.Limits.{most_edges, most_triangles};
+ghost use Rattle.exact_predicates.specs.declared.diamond.Diamond.{Diamond as diamond_type};
+ghost use Rattle.exact_predicates.specs.declared.point.Point.{Point as point_type};
 ghost use Rattle.exact_predicates.specs.Candidates.{AreCandidates, AreTrianglesOver};
 ghost use Rattle.exact_predicates.specs.Hull.{IsHull};
-ghost use Rattle.exact_predicates.specs.PointSet.{IsPointSet};
 ghost use Rattle.lmt_network.specs.Flags.{live_numbers};
 ghost use Rattle.dual_checker.specs.Elimination.{HasTooManyEdges, HasTooManyTriangles, IsElimination, IsNetworkOf, IsWithinLimits};
 
@@ -12,6 +13,7 @@ use diamond_edges::{EdgeStop, candidates};
 use empty_triangles::{TriStop, triangles};
 use exact_predicates::{Diamond, Edges, Hull, Points, Tris};
 use lmt_network::{Flags, Network, plain_settle};
+use mwt_base::NoMemory;
 use point_grid::Grid;
 use std::alloc::{AllocError, Global};
 use std::thread::Threads;
@@ -40,6 +42,14 @@ impl Elimination {
         ensures within { OnOk result (IsWithinLimits points.now.points diamond) }
     {
         let net = network_of(rt, alloc, points, hull, diamond)?;
+        Ok(Elimination::of_network(alloc, net)?)
+    }
+
+    /// Finds the live edges of the points of a network by plain elimination.
+    pub fn of_network(alloc: Global, net: Network) -> Result<Elimination, NoMemory>
+        ensures { IfOk result (λ e. (ps : List point_type) (hull : List ℕ) (diamond : diamond_type)
+            → IsNetworkOf ps hull diamond net → IsElimination ps hull diamond e.net e.flags) }
+    {
         let count = net.edges();
         let mut flags = Flags::all(alloc, count)?;
         plain_settle(&net, &mut flags);
@@ -75,7 +85,7 @@ pub fn network_of<R: Threads + Sync>(
     ensures network { IfOk result (λ net. IsNetworkOf points.now.points hull.now diamond net) }
     ensures dense_edges { IsErrOf result CheckStop.DenseEdges → HasTooManyEdges points.now.points diamond }
     ensures dense_triangles { IsErrOf result CheckStop.DenseTriangles → HasTooManyTriangles points.now.points diamond }
-    ensures within { OnOk result (IsPointSet points.now.points → IsWithinLimits points.now.points diamond) }
+    ensures within { OnOk result (IsWithinLimits points.now.points diamond) }
 {
     let grid = Grid::new(alloc, points)?;
     let edges = edges_of(rt, alloc, points, &grid, hull, diamond)?;

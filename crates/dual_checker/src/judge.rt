@@ -3,14 +3,14 @@ ghost use Rattle.std.specs.Prelude.{◌≡◌, ◌⊎◌, ℕ, IfOk, OnOk, IsErr
 ghost use Rattle.exact_predicates.specs.PointSet.{IsPointSet};
 ghost use Rattle.cert_text.specs.Within.{IsWithin};
 ghost use Rattle.dual_checker.specs.Elimination.{HasTooManyEdges, HasTooManyTriangles, IsElimination, IsWithinLimits};
-ghost use Rattle.dual_checker.specs.GoodReport.{HasPoints, HasHull, HasLive, HasSkeleton, edge_parts, price_parts};
+ghost use Rattle.dual_checker.specs.GoodReport.{HasPoints, HasHull, HasLive, HasSkeleton, HasLength, edge_parts, price_parts};
 ghost use Rattle.dual_checker.specs.LiveLines.{HasNumbers, IsLedger};
 ghost use Rattle.dual_checker.specs.Parts.{IsFirstToFail};
 ghost use Rattle.dual_checker.specs.Verdicts.{IsVerdict, verdict_of};
 
-use crate::elimination::Elimination;
+use crate::elimination::{Elimination, network_of};
 use crate::ledger::Ledger;
-use crate::length::{has_gap, has_length};
+use crate::length::{has_faces, has_gap, has_length};
 use crate::lists::{has_candidates, has_live, has_skeleton};
 use crate::points::points_of;
 use crate::stop::CheckStop;
@@ -25,7 +25,7 @@ use std::thread::Threads;
 
 /// Decides whether a report is right about its points, part by part, from the points and the diamond word
 /// alone. The parts are, in this order: points, hull, candidates, live, skeleton, triangulation, length,
-/// prices, slack, bound and gap. Behind the first come `DenseEdges`, which says that the points have more
+/// prices, slack, bound, gap and faces. After the first come `DenseEdges`, which says that the points have more
 /// than 400,000 candidate edges, and `DenseTriangles`, which says that they have no more, but more than
 /// 4,000,000 empty triangles between these.
 pub fn check<R: Threads + Sync>(
@@ -46,10 +46,11 @@ pub fn check<R: Threads + Sync>(
         return Ok(Verdict::Broken(1));
     };
     let start = sweep(alloc, &points)?;
-    let elimination = Elimination::of(rt, alloc, &points, &start.hull, report.diamond)?;
+    let net = network_of(rt, alloc, &points, &start.hull, report.diamond)?;
     if start.hull.as_slice() != report.hull.as_slice() {
         return Ok(Verdict::Broken(2));
     }
+    let elimination = Elimination::of_network(alloc, net)?;
     let broken = broken_part(alloc, &points, &elimination, report)?;
     Ok(verdict_of(broken))
 }
@@ -64,7 +65,7 @@ fn verdict_of(broken: Option<u32>) -> Verdict
     }
 }
 
-// The first part behind the hull that fails.
+// The first part after the hull that fails.
 fn broken_part(
     alloc: Global,
     points: &Points,
@@ -108,6 +109,7 @@ fn broken_price_part(
     requires numbers { HasNumbers report.now elimination.now.net elimination.now.flags numbers.now }
     requires live { HasLive report.now }
     requires skeleton { HasSkeleton report.now }
+    requires length { HasLength report.now }
     ensures { IfOk result (IsFirstToFail 8 (price_parts report.now)) }
 {
     let ledger = Ledger::of(alloc, &elimination.net, &elimination.flags, numbers, report)?;
@@ -121,6 +123,7 @@ fn broken_part_of(alloc: Global, ledger: &Ledger) -> Result<Option<u32>, AllocEr
     requires hull { HasHull ledger.now.report.now }
     requires live { HasLive ledger.now.report.now }
     requires skeleton { HasSkeleton ledger.now.report.now }
+    requires length { HasLength ledger.now.report.now }
     ensures { IfOk result (IsFirstToFail 8 (price_parts ledger.now.report.now)) }
 {
     if !ledger.has_marks() {
@@ -134,6 +137,9 @@ fn broken_part_of(alloc: Global, ledger: &Ledger) -> Result<Option<u32>, AllocEr
     }
     if !has_gap(ledger.report) {
         return Ok(Some(11));
+    }
+    if !has_faces(ledger.report) {
+        return Ok(Some(12));
     }
     Ok(None)
 }

@@ -1,9 +1,9 @@
-// The length of a report.
+// The length of a report, and what it has to do with the bound.
 ghost use Rattle.std.specs.Prelude.{◌≡◌, ◌↔◌, IsTrue};
 ghost use Rattle.cert_text.specs.Within.{IsWithin};
-ghost use Rattle.dual_checker.specs.GoodReport.{HasHull, HasLength, HasGap};
+ghost use Rattle.dual_checker.specs.GoodReport.{HasHull, HasLength, HasGap, HasFaces};
 
-use cert_text::Report;
+use cert_text::{Method, Report};
 use exact_predicates::Points;
 use length_enclosure::enclosure;
 
@@ -24,4 +24,16 @@ pub fn has_gap(report: &Report) -> bool
     ensures { IsTrue result ↔ HasGap report.now }
 {
     report.gap == report.hi as i128 - report.bound
+}
+
+/// Whether a report's bound is the lower end of its length, where its method is faces.
+pub fn has_faces(report: &Report) -> bool
+    requires within { IsWithin report.now }
+    requires length { HasLength report.now }
+    ensures { IsTrue result ↔ HasFaces report.now }
+{
+    match report.method {
+        Method::Flips => true,
+        Method::Faces => report.bound == report.lo as i128,
+    }
 }

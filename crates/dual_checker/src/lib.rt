@@ -4,6 +4,7 @@
 
 mod bound;
 mod corners;
+mod derivations;
 mod elimination;
 mod flips;
 mod half_edges;
@@ -20,6 +21,7 @@ mod stop;
 mod triangulation;
 mod verdict;
 
+pub use derivations::derivation;
 pub use elimination::{Elimination, network_of};
 pub use judge::check;
 pub use laws::good_report_laws;

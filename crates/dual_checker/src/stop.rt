@@ -1,12 +1,12 @@
 // Why a set of points has no elimination.
 ghost use Rattle.std.specs.Prelude.{◌≡◌};
-ghost use Rattle.dual_checker.specs.declared.stop.CheckStop.TheVariants.{NoMemory as want_of_memory};
+ghost use Rattle.dual_checker.specs.declared.stop.CheckStop.TheVariants.{NoMemory as out_of_memory};
 
 use mwt_base::NoMemory;
 use std::alloc::AllocError;
 
 /// Why a set of points has no elimination: it has more candidate edges, or more empty triangles with
-/// candidate sides, than the limit. Or want of memory.
+/// candidate sides, than the limit; or memory ran out.
 #[derive(Clone, Copy, Debug, PartialEq, Eq)]
 pub enum CheckStop {
     DenseEdges,
@@ -15,7 +15,7 @@ pub enum CheckStop {
 }
 
 impl From<AllocError> for CheckStop {
-    ghost from_gives = { λ _ stop. stop ≡ want_of_memory };
+    ghost from_gives = { λ _ stop. stop ≡ out_of_memory };
 
     fn from(_: AllocError) -> Self {
         CheckStop::NoMemory
@@ -23,7 +23,7 @@ impl From<AllocError> for CheckStop {
 }
 
 impl From<NoMemory> for CheckStop {
-    ghost from_gives = { λ _ stop. stop ≡ want_of_memory };
+    ghost from_gives = { λ _ stop. stop ≡ out_of_memory };
 
     fn from(_: NoMemory) -> Self {
         CheckStop::NoMemory

@@ -1,4 +1,4 @@
-// Whether triangles are a flip-minimal triangulation.
+// Whether triangles are a triangulation, and a flip-minimal one.
 ghost use Rattle.std.specs.Prelude.{◌≡◌, ◌↔◌, All, IsTrue, IfOk};
 ghost use Rattle.cert_text.specs.Within.{IsWithin};
 ghost use Rattle.dual_checker.specs.GoodReport.{HasHull, HasTriangulation};
@@ -8,14 +8,14 @@ use crate::corners::{are_corners, are_empty};
 use crate::flips::is_minimal;
 use crate::half_edges::{HalfEdges, Side};
 use crate::rim::Rim;
-use cert_text::Report;
+use cert_text::{Method, Report};
 use exact_predicates::Points;
 use mwt_base::NoMemory;
 use point_grid::Grid;
 use std::alloc::Global;
 
-/// Whether the triangles of a report are a triangulation in which no flip makes an edge shorter. For n
-/// triangles it takes time n log n and the queries of the grid.
+/// Whether the triangles of a report are a triangulation, in which no flip makes an edge shorter where the
+/// method is flips. For n triangles it takes time n log n and the queries of the grid.
 pub fn has_triangulation(alloc: Global, points: &Points, report: &Report) -> Result<bool, NoMemory>
     requires points { points.now.points ≡ report.now.points }
     requires within { IsWithin report.now }
@@ -36,13 +36,14 @@ pub fn has_triangulation(alloc: Global, points: &Points, report: &Report) -> Res
     }
     let halves = HalfEdges::of(alloc, tris)?;
     let rim = Rim::of(alloc, hull)?;
-    Ok(are_fitting(points, &halves, &rim))
+    Ok(are_fitting(points, &halves, &rim, report.method))
 }
 
-// Whether half-edges fit one another and the pairs of the hull, and no flip makes one of them shorter.
-fn are_fitting(points: &Points, halves: &HalfEdges, rim: &Rim) -> bool
+// Whether half-edges fit one another and the pairs of the hull, and where the method is flips, no flip makes
+// one of them shorter.
+fn are_fitting(points: &Points, halves: &HalfEdges, rim: &Rim, method: Method) -> bool
     requires within { All (IsWithinPoints points.now.points) halves.now }
-    ensures { IsTrue result ↔ AreFitting points.now.points halves.now rim.now }
+    ensures { IsTrue result ↔ AreFitting points.now.points halves.now rim.now method }
 {
     if !is_covered(halves, rim) {
         return false;
@@ -50,7 +51,10 @@ fn are_fitting(points: &Points, halves: &HalfEdges, rim: &Rim) -> bool
     if !is_balanced(halves, rim) {
         return false;
     }
-    is_minimal(points, halves, rim)
+    match method {
+        Method::Flips => is_minimal(points, halves, rim),
+        Method::Faces => true,
+    }
 }
 
 // Whether each pair of the hull is a side once, and never the other way round.

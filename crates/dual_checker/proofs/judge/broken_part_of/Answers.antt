@@ -32,6 +32,22 @@ returns-then-not-has_gap c =
       ),
     )
 
+pub returns-then-not-has_faces : goal.returns-then-not-has_faces
+returns-then-not-has_faces c =
+    inr (
+      c.has_marks.ensures.0 c.if-not-has_marks.false,
+      inr (
+        c.has_slack.ensures.0 c.if-not-has_slack.false,
+        inr (
+          c.in_ok-has_bound.ensures.0 c.if-not-branch.false,
+          inr (
+            c.has_gap.ensures.0 c.if-not-has_gap.false,
+            inl (refl, λ h. false≢true (sym c.if-not-has_faces.true ∙ c.has_faces.ensures.1 h)),
+          ),
+        ),
+      ),
+    )
+
 pub returns : goal.returns
 returns c = (
   c.has_marks.ensures.0 c.if-not-has_marks.false,
@@ -39,7 +55,7 @@ returns c = (
     c.has_slack.ensures.0 c.if-not-has_slack.false,
     (
       c.in_ok-has_bound.ensures.0 c.if-not-branch.false,
-      (c.has_gap.ensures.0 c.if-not-has_gap.false, tt),
+      (c.has_gap.ensures.0 c.if-not-has_gap.false, (c.has_faces.ensures.0 c.if-not-has_faces.false, tt)),
     ),
   ),
 )

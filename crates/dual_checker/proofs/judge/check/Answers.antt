@@ -33,7 +33,8 @@ broken_part-requires-clause-eliminated g c =
     let same = hulls_agree c.args.report.now c.in-Some.points.points c.in_ok-start.start.hull c.as_slice.result.now c.as_slice-2.result.now c.ne.result found.1
     c.in_ok-start.ensures.hull c.as_slice.ensures.is c.as_slice-2.ensures.is c.ne.ensures c.if-ne.false in
     subst (λ (ps : List Point). IsElimination ps c.args.report.now.hull c.args.report.now.diamond c.in_ok-elimination.elimination.net c.in_ok-elimination.elimination.flags) found.1
-    (subst (λ (hull : List ℕ). IsElimination c.in-Some.points.points hull c.args.report.now.diamond c.in_ok-elimination.elimination.net c.in_ok-elimination.elimination.flags) same c.in_ok-elimination.ensures.eliminated)
+    (subst (λ (hull : List ℕ). IsElimination c.in-Some.points.points hull c.args.report.now.diamond c.in_ok-elimination.elimination.net c.in_ok-elimination.elimination.flags) same
+    (c.in_ok-elimination.ensures c.in-Some.points.points c.in_ok-start.start.hull c.args.report.now.diamond c.in_ok-net.ensures.network))
 
 pub returns-clause-verdict : goal.returns-clause-verdict
 returns-clause-verdict g c =

@@ -1,4 +1,4 @@
-use Rattle.std.proofs.Common.{◌≡◌, ◌↔◌, ◌+◌, ◌*◌, ◌<◌, ℕ, IsTrue, List, length, map, All, IsPermutation, sym, ap, subst, arith}
+use Rattle.std.proofs.Common.{◌≡◌, ◌↔◌, ◌+◌, ◌*◌, ◌<◌, ℕ, IsTrue, List, length, map, All, IsPermutation, ap, subst, arith}
 use Rattle.exact_predicates.specs.declared.point.Point.{Point}
 use Rattle.exact_predicates.specs.declared.tri.Tri.{Tri}
 use Rattle.exact_predicates.specs.Hull.{ring_pairs}
@@ -48,4 +48,4 @@ returns c =
       rim_is = subst (λ (hull : List ℕ). IsPermutation (map side_of (ring_pairs hull)) c.in_ok-rim.rim) c.as_slice-hull.ensures.is c.in_ok-rim.ensures;
     } in
     decides_triangulation r c.in_ok-halves.halves c.in_ok-rim.rim c.are_fitting.result are tiles
-    (subst (λ (qs : List Point). IsTrue c.are_fitting.result ↔ AreFitting qs c.in_ok-halves.halves c.in_ok-rim.rim) c.requires.points c.are_fitting.ensures)
+    (subst (λ (qs : List Point). IsTrue c.are_fitting.result ↔ AreFitting qs c.in_ok-halves.halves c.in_ok-rim.rim r.method) c.requires.points c.are_fitting.ensures)
