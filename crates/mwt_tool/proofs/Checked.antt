@@ -29,7 +29,7 @@ not_first (part p ps) first k (holds, all) (inl (is, fails)) = absurd (fails hol
 not_first (part p ps) first k (holds, all) (inr (also, fails)) = not_first ps (first + 1) k all fails
 
 all_hold : (r : Report) → IsGoodReport r → AllHold (parts r)
-all_hold r g = (g.points, (g.hull, (g.candidates, (g.live, (g.skeleton, (g.triangulation, (g.length, (g.marks, (g.slack, (g.bound, (g.gap, tt)))))))))))
+all_hold r g = (g.points, (g.hull, (g.candidates, (g.live, (g.skeleton, (g.triangulation, (g.length, (g.marks, (g.slack, (g.bound, (g.gap, (g.faces, tt))))))))))))
 
 -- a good report within the limits is answered with Done and `valid`
 Decides-valid : (r : Report) (status : Status) (text : List ℕ) → IsGoodReport r → IsWithinLimits r.points r.diamond

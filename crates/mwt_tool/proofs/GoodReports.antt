@@ -9,7 +9,7 @@ use Rattle.lmt_network.specs.Bounds.{Exclusion}
 use Rattle.lmt_network.proofs.BoundLaws.{exclusion_off_law}
 use Rattle.cert_text.specs.declared.report.Report.{Report}
 use Rattle.dual_checker.specs.GoodReport.{IsGoodReport}
-use Rattle.dual_checker.proofs.GoodBounds.{bound_is_lower}
+use Rattle.dual_checker.proofs.GoodBounds.{bound_is_lower, bound_is_lower_over_live, faces_are_optimal, skeleton_is_common}
 use Rattle.mwt_tool.specs.ReportOf.{EnclosesLength, IsCertified, Premise}
 
 module _ {r : Report} (g : IsGoodReport r) where
@@ -29,4 +29,7 @@ module _ {r : Report} (g : IsGoodReport r) where
     good = g;
     encloses = encloses;
     none_is_shorter = λ h tris t. bound_is_lower r tris g (premise r.diamond h) t;
+    none_live_is_shorter = λ tris t live. bound_is_lower_over_live r tris g t live;
+    skeleton_in = λ tris minimal candidates. skeleton_is_common r tris g minimal candidates;
+    optimal = λ faces. (faces_are_optimal r g faces).bound;
   }

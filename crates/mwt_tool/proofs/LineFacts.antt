@@ -13,14 +13,15 @@ use Rattle.lmt_network.specs.Flags.{live_numbers}
 use Rattle.lmt_network.specs.Live.{IsHullEdge}
 use Rattle.lmt_network.specs.Network.{NetworkParts, edge_at}
 use Rattle.lmt_network.specs.Numbers.{HasSide, IsNumberOf}
-use Rattle.lmt_network.specs.Prices.{IsLiveTriangle, IsTight, is_on_hull, priced}
+use Rattle.lmt_network.specs.Prices.{IsLiveTriangle, IsTight, Priced, is_on_hull, priced}
 use Rattle.lmt_network.proofs.Entries.{is_on_hull_decides}
 use Rattle.lmt_network.proofs.Naming.{edge_at-once}
 use Rattle.lmt_network.proofs.Picked.{All-from_members, flag_from_live, flag_in, picked_from, picked_in}
 use Rattle.price_ascent.specs.declared.entry.Entry.{Entry}
-use Rattle.price_ascent.specs.Belonging.{BelongTo, IsAnchor, IsPrice}
+use Rattle.price_ascent.specs.Belonging.{AreEntriesOf, IsWithinRanges}
 use Rattle.price_ascent.specs.Entries.{anchored_edges, entry, live_of, no_entry, prices_of}
-use Rattle.price_ascent.proofs.Kept.{entry_at-kept, get_or-mapped, number-live, priced-kept}
+use Rattle.price_ascent.proofs.Kept.{entry_at-kept, get_or-mapped, kept_price, number-live, priced-kept}
+use Rattle.price_ascent.proofs.PriceLists.{price_of_live}
 use Rattle.cert_text.specs.declared.report.LineKind.TheVariants.{Hull, Skeleton}
 use Rattle.cert_text.specs.declared.report.PriceLine.{PriceLine}
 use Rattle.cert_text.specs.Within.{ArePrices as AreRanges, IsLiveRow}
@@ -55,7 +56,7 @@ hull_decides : (n : NetworkParts) (e : ℕ) → Decides (on_hull n e) (IsHullEdg
 hull_decides n e = is_on_hull_decides n.hull (edge_at n e).a (edge_at n e).b
 
 -- an edge of the hull has no anchors of its own for its sides
-hull-not_anchored : (n : NetworkParts) (es : List Entry) (e : ℕ) → BelongTo n es → e < length n.edges → on_hull n e ≡ true → (entry es e).anchored ≡ false
+hull-not_anchored : (n : NetworkParts) (es : List Entry) (e : ℕ) → AreEntriesOf n es → e < length n.edges → on_hull n e ≡ true → (entry es e).anchored ≡ false
 hull-not_anchored n es e b e_in on = at (entry es e).anchored refl
   where
     at : (a : Bool) → (entry es e).anchored ≡ a → (entry es e).anchored ≡ false
@@ -63,7 +64,7 @@ hull-not_anchored n es e b e_in on = at (entry es e).anchored refl
     at false is = is
 
 -- the anchored edges by number
-anchored-number : (n : NetworkParts) (es : List Entry) (e : ℕ) → BelongTo n es → e < length n.edges
+anchored-number : (n : NetworkParts) (es : List Entry) (e : ℕ) → AreEntriesOf n es → e < length n.edges
     → Contains (anchored_edges n es) (edge_at n e) ↔ ((entry es e).anchored ≡ true)
 anchored-number n es e b e_in = (forth, back)
   where
@@ -77,7 +78,7 @@ anchored-number n es e b e_in = (forth, back)
     back is = picked_in (map (λ (p : Entry). p.anchored) es) n.edges e _ e_in (get_or-mapped (λ (p : Entry). p.anchored) es e no_entry ∙ is)
 
 -- a line is marked as of the hull exactly where its edge is
-pub hull_marks : (n : NetworkParts) (es : List Entry) → BelongTo n es → All (λ l. (l.kind ≡ Hull) ↔ IsHullEdge n.hull l.edge) (price_lines n es)
+pub hull_marks : (n : NetworkParts) (es : List Entry) → AreEntriesOf n es → All (λ l. (l.kind ≡ Hull) ↔ IsHullEdge n.hull l.edge) (price_lines n es)
 hull_marks n es b =
     all_lines n es (λ l. (l.kind ≡ Hull) ↔ IsHullEdge n.hull l.edge) b.one_each
     (λ e e_in live.
@@ -86,7 +87,7 @@ hull_marks n es b =
     (λ h. on.0 (kind.0 h), λ h. kind.1 (on.1 h)))
 
 -- and as of the skeleton exactly where its edge is one of the skeleton and not of the hull
-pub skeleton_marks : (n : NetworkParts) (es : List Entry) (skeleton : List Edge) → BelongTo n es
+pub skeleton_marks : (n : NetworkParts) (es : List Entry) (skeleton : List Edge) → AreEntriesOf n es
     → ((e : Edge) → Contains (anchored_edges n es) e ↔ (Contains skeleton e × (¬ IsHullEdge n.hull e)))
     → All (λ l. (l.kind ≡ Skeleton) ↔ (Contains skeleton l.edge × (¬ IsHullEdge n.hull l.edge))) (price_lines n es)
 skeleton_marks n es skeleton b anchored =
@@ -102,7 +103,7 @@ abbrev pub IsOnLiveTriangle : NetworkParts → List Entry → Edge → Type 0
 IsOnLiveTriangle n es e = (t : Tri) × (HasSide t e.a e.b ⊎ HasSide t e.b e.a) × IsLiveTriangle n.points (prices_of n es) t
 
 -- the line of an edge of the hull without a live triangle has the anchor 0
-pub bare_lines : (n : NetworkParts) (es : List Entry) → BelongTo n es → IsTight n.points n.hull (anchored_edges n es) (prices_of n es)
+pub bare_lines : (n : NetworkParts) (es : List Entry) → AreEntriesOf n es → IsTight n.points n.hull (anchored_edges n es) (prices_of n es)
     → All (λ l. l.kind ≡ Hull → IsOnLiveTriangle n es l.edge ⊎ (l.value ≡ pos 0)) (price_lines n es)
 bare_lines n es b tight =
     all_lines n es (λ l. l.kind ≡ Hull → IsOnLiveTriangle n es l.edge ⊎ (l.value ≡ pos 0)) b.one_each
@@ -129,33 +130,34 @@ bare_lines n es b tight =
         (tight.hull_sides (edge_at n e).b (edge_at n e).a pair)
 
 -- the amounts of a line are in their ranges
-amounts : (b a : Bool) (value left right : ℤ) → (b ≡ true → IsAnchor value) → (b ≡ false → IsPrice value) → IsAnchor left → IsAnchor right
-    → (a ≡ false → (left ≡ pos 0) × (right ≡ pos 0)) → (b ≡ true → a ≡ false) → AreRanges 2 (kind_of b a) value left right
-amounts true a value left right anchor price l r none apart =
+amounts : (hull : List ℕ) (b a : Bool) (p : Priced) → Decides b (IsHullEdge hull p.edge) → IsWithinRanges hull p
+    → (a ≡ false → (p.left ≡ pos 0) × (p.right ≡ pos 0)) → (b ≡ true → a ≡ false) → AreRanges 2 (kind_of b a) p.value p.left p.right
+amounts hull true a p decides w none apart =
     let zero = none (apart refl) in
-    let is = anchor refl in
+    let is = w.anchor (decides.0 refl) in
     (record { least = omega (arith, ints, is.0); most = omega (arith, ints, is.1) }, zero.0, zero.1)
-amounts false true value left right anchor price l r none apart =
-    let is = price refl in (
+amounts hull false true p decides w none apart =
+    let is = w.price (λ h. false≢true (decides.1 h)) in
+    let l = w.left in
+    let r = w.right in (
       refl,
       record { least = omega (arith, ints, is.0); most = omega (arith, ints, is.1) },
       record { least = l.0; most = omega (arith, ints, l.1) },
       record { least = r.0; most = omega (arith, ints, r.1) },
     )
-amounts false false value left right anchor price l r none apart =
+amounts hull false false p decides w none apart =
     let zero = none refl in
-    let is = price refl in
+    let is = w.price (λ h. false≢true (decides.1 h)) in
     (record { least = omega (arith, ints, is.0); most = omega (arith, ints, is.1) }, zero.0, zero.1)
 
-pub line_rows : (n : NetworkParts) (es : List Entry) → BelongTo n es → All (IsLiveRow 2 (length n.points)) (price_lines n es)
-line_rows n es b =
+pub line_rows : (n : NetworkParts) (es : List Entry) → AreEntriesOf n es → All (IsWithinRanges n.hull) (prices_of n es)
+    → All (IsLiveRow 2 (length n.points)) (price_lines n es)
+line_rows n es b within =
     all_lines n es (IsLiveRow 2 (length n.points)) b.one_each
     (λ e e_in live.
-    let kept = b.each e e_in in
-    let hull = hull_decides n e in
     subst (λ p. IsLiveRow 2 (length n.points) (line_of (on_hull n e) (entry es e).anchored p)) (sym (entry_at-kept n es e))
     (record {
       edge = b.network.ends_in e _ e_in;
-      prices = amounts (on_hull n e) (entry es e).anchored (entry es e).value (entry es e).left (entry es e).right
-          (λ on. kept.anchor (hull.0 on)) (λ off. kept.price (λ h. false≢true (sym off ∙ hull.1 h))) kept.left kept.right kept.elsewhere (hull-not_anchored n es e b e_in);
+      prices = amounts n.hull (on_hull n e) (entry es e).anchored (kept_price n es e) (hull_decides n e)
+          (price_of_live n es (IsWithinRanges n.hull) e within live) (b.each e e_in).elsewhere (hull-not_anchored n es e b e_in);
     }))

@@ -10,7 +10,7 @@ use Rattle.cert_text.specs.Texts.{Grows, lines_text}
 use Rattle.cert_text.proofs.Growing.{grows_then}
 use Rattle.mwt_tool.specs.Makes.{header_lines, made_text, node_line, node_lines}
 
--- a line feed behind two texts that a dash parts
+-- a line feed after two texts that a dash parts
 dash_then : (s n rest : List ℕ) → ((s ++ 45 ∷ n) ++ 10 ∷ []) ++ rest ≡ s ++ (45 ∷ (n ++ 10 ∷ rest))
 dash_then s n rest = append_assoc (s ++ 45 ∷ n) (10 ∷ []) rest ∙ append_assoc s (45 ∷ n) (10 ∷ rest)
 

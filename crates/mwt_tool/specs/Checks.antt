@@ -27,13 +27,14 @@ part_name k =
     else if k == 8 then codes "prices"
     else if k == 9 then codes "slack"
     else if k == 10 then codes "bound"
-    else codes "gap"
+    else if k == 11 then codes "gap"
+    else codes "faces"
 
 -- the line of a report whose part k is the first that fails
 abbrev pub broken_line : ℕ → List ℕ
 broken_line k = line (codes "broken " ++ decimal k ++ codes " " ++ part_name k)
 
--- For a report: that its points have too many candidate edges or empty triangles, which is judged behind the first part; the
+-- For a report: that its points have too many candidate edges or empty triangles, which is judged after the first part; the
 -- first part that fails; or that it is good, and so certifies.
 pub data Decides (r : Report) (status : Status) (text : List ℕ) : Type 0 where
   dense_edges : HasPoints r → HasTooManyEdges r.points r.diamond → Refuses DenseEdges status text → Decides r status text

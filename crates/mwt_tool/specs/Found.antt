@@ -1,6 +1,5 @@
 -- The report that is made of what was found.
 use Rattle.std.specs.Prelude.{pos, ◌-ℤ◌}
-use Rattle.cert_text.specs.declared.report.Method.TheVariants.{Flips}
 use Rattle.cert_text.specs.declared.report.Report.{Report}
 use Rattle.tsplib_points.specs.declared.file.File.{File}
 use Rattle.mwt_tool.specs.declared.solver.Found.{Found}
@@ -18,7 +17,7 @@ report_of file settings found = record {
   live = found.part.live;
   skeleton = found.part.skeleton;
   tris = found.tris;
-  method = Flips;
+  method = found.method;
   lo = found.ends.lo;
   hi = found.ends.hi;
   bound = found.part.bound;

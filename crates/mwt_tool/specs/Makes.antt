@@ -19,7 +19,7 @@ mixed w = xor_shift 16 (word_of (2221713035 * xor_shift 15 (word_of (2146121005 
 abbrev pub coordinate : ℕ → ℕ → ℕ
 coordinate seed place = mixed (word_of (word_of (2654435769 * seed) + place)) / 2 ^ 12
 
--- the line of the node i, from 1 on: its x stands at an odd place, and its y behind
+-- the line of the node i, from 1 on: its x stands at an odd place, and its y after it
 abbrev pub node_line : ℕ → ℕ → List ℕ
 node_line seed i = spaced (decimal i ∷ decimal (coordinate seed (2 * i - 1)) ∷ decimal (coordinate seed (2 * i)) ∷ [])
 

@@ -90,6 +90,7 @@ fn part_name(part: u32) -> &'static str
         8 => "prices",
         9 => "slack",
         10 => "bound",
-        _ => "gap",
+        11 => "gap",
+        _ => "faces",
     }
 }

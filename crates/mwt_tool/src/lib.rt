@@ -12,15 +12,14 @@ mod price_lines;
 mod priced;
 mod refusal;
 mod shortening;
+mod solution;
 mod solver;
 mod solving;
 mod summary;
-#[cfg(test)]
-mod tests;
 mod top;
 mod words;
 
 pub use generator::generate;
-pub use laws::round_trip_law;
+pub use laws::{one_file_law, round_trip_law};
 pub use solver::{Settings, solve};
 pub use top::{run, run_in_memory};

@@ -12,7 +12,7 @@ ghost use Rattle.lmt_network.specs.Live.{IsLive};
 ghost use Rattle.exact_predicates.specs.Candidates.{AreCandidates};
 
 use crate::priced::Priced;
-use crate::shortening::shortened;
+use crate::solution::Solution;
 use cert_text::{Method, Report};
 use dual_checker::{CheckStop, network_of};
 use exact_predicates::{Diamond, Hull, Point, PointList, Points, Tris};
@@ -20,13 +20,14 @@ use hull_sweep::{Start, sweep};
 use length_enclosure::{Enclosure, enclosure};
 use lmt_network::{Flags, Network};
 use mwt_base::{Gate, NoMemory};
+use skeleton_faces::skeleton;
 use std::alloc::Global;
 use std::thread::Threads;
 use steal_workers::{Dealing, Settled, settle_all};
 use tsplib_points::File;
 
 /// What `solve` is asked for: how many workers discard edges, from 1 to 64; whether edges are left out by
-/// the diamond test; and how many sweeps of prices are made.
+/// the diamond test; and how many sweeps of prices are made where the skeleton does not decompose.
 #[derive(Clone, Copy, Debug, PartialEq, Eq)]
 pub struct Settings {
     pub workers: u32,
@@ -34,10 +35,12 @@ pub struct Settings {
     pub sweeps: u32,
 }
 
-/// The report of what a file holds: a good one, whose triangulation is found by flips from the sweep's,
-/// and whose prices are those of the ascent. `DenseEdges` and `DenseTriangles` come exactly where the
-/// points have too many candidate edges, or empty triangles between them. No part of the report depends on
-/// the number of workers; `gate` is called by them.
+/// The report of what a file holds: a good one. Where the skeleton of its live edges decomposes into faces
+/// of at most 128 corners, its method is faces: the triangulation is the best on each face, and the bound
+/// is the lower end of its length. Else its method is flips: the triangulation is found by flips from the
+/// sweep's, and the prices are those of the ascent. `DenseEdges` and `DenseTriangles` come exactly where
+/// the points have too many candidate edges, or empty triangles between them. No part of the report
+/// depends on the number of workers; `gate` is called by them.
 pub fn solve<R: Threads + Sync, G: Gate>(
     rt: &R,
     alloc: Global,
@@ -59,15 +62,27 @@ pub fn solve<R: Threads + Sync, G: Gate>(
     let Start { hull, tris: first } = sweep(alloc, &file.points)?;
     let net = network_of(rt, alloc, &file.points, &hull, settings.diamond)?;
     let flags = live_flags(rt, alloc, &net, settings.workers, gate)?;
-    let part = Priced::of(alloc, &file.points, &net, &flags, settings.sweeps)?;
-    let tris = shortened(alloc, &file.points, &hull, &first)?;
-    let ends = enclosure(&file.points, &hull, &tris);
+    let skeleton = skeleton(alloc, &file.points, &net, &flags)?;
+    let sweeps = settings.sweeps;
+    let solution = Solution::of(
+        alloc,
+        &file.points,
+        &hull,
+        &net,
+        &flags,
+        &skeleton,
+        &first,
+        sweeps,
+    )?;
+    let part = Priced::of(alloc, &net, &flags, skeleton, &solution.prices)?;
+    let ends = enclosure(&file.points, &hull, &solution.tris);
     let found = Found {
         points,
         hull,
         candidates: net.edges(),
         part,
-        tris,
+        method: solution.method,
+        tris: solution.tris,
         ends,
     };
     Ok(found.report(file, settings))
@@ -80,6 +95,7 @@ pub struct Found {
     hull: Hull,
     candidates: u32,
     part: Priced,
+    method: Method,
     tris: Tris,
     ends: Enclosure,
 }
@@ -98,6 +114,7 @@ impl Found {
             hull,
             candidates,
             part,
+            method,
             tris,
             ends,
         } = self;
@@ -118,7 +135,7 @@ impl Found {
             live,
             skeleton,
             tris,
-            method: Method::Flips,
+            method,
             lo,
             hi,
             bound,

@@ -43,7 +43,7 @@ pub fn run<S: Source, K: Sink, G: Gate, R: Threads + Sync>(
     ensures read_nothing { ¬ ReadsInput (texts words.now) → source.new ≡ source.old }
     ensures reads { S.reads source.new ≤ S.reads source.old + (most_bytes + 2) }
 
-    // Where no fault was counted there is an answer, or want of memory.
+    // Where no fault was counted there is an answer, or the program is out of memory.
     ensures no_other { ¬ Rose (S.faults source.old) (S.faults source.new) →
         ¬ Rose (K.faults sink.old) (K.faults sink.new) →
         IsAnswer result ⊎ (result ≡ Status.NoMemory) }

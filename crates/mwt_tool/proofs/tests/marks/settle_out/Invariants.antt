@@ -1,5 +1,0 @@
-use Rattle.edge_marks.specs.Handles.{Belongs}
-use Rattle.mwt_tool.proofs.tests.marks.settle_out.Given as goal
-
-abbrev pub invariant-loop : goal.invariant-loop
-invariant-loop l = Belongs l.marks l.seat
