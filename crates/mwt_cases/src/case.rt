@@ -6,11 +6,11 @@ use std::alloc::{AllocError, Global};
 
 /// A case, as the parts of its file:
 ///
-/// - a line `words`, with each word behind a space;
+/// - a line `words`, with each word after a space;
 /// - a line `status N`, with the exit status;
 /// - a line `input`, and the lines of the input; or a line `input open`, where the input does not end
 ///   with a line feed;
-/// - a line `output`, and behind it the whole text that is wanted.
+/// - a line `output`, and after it the whole text that is wanted.
 #[derive(Drop)]
 pub struct Case<'a> {
     words: &'a [u8],
@@ -34,7 +34,7 @@ impl<'a> Case<'a> {
         })
     }
 
-    /// The words: what stands behind each space.
+    /// The words: what comes after each space.
     pub fn words(&self, alloc: Global) -> Result<Vec<String>, AllocError> {
         let mut words = Vec::new(alloc);
         for word in self.words.split_str(b" ").skip(1) {
