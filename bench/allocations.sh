@@ -8,6 +8,9 @@ top=$(cd "$(dirname "$0")/.." && pwd)
 work=$(mktemp -d)
 trap 'rm -rf "$work"' EXIT
 faults=0
+all_refused=0
+all_silent=0
+all_same=0
 
 # Runs the program with the allocation of a number refused; 0 refuses none. The rest are the words.
 run_refusing() {
@@ -42,6 +45,9 @@ try_run() {
         number=$((number + 1))
     done
     printf '%-22s %-26s %7d %7d %7d\n' "$*" "$name" $((number - 1)) "$silent" "$same"
+    all_refused=$((all_refused + number - 1))
+    all_silent=$((all_silent + silent))
+    all_same=$((all_same + same))
 }
 
 cc -O2 -shared -fPIC -o "$work/shim.so" "$top/bench/refuse_allocation.c" -ldl
@@ -56,4 +62,5 @@ for input in "$top"/examples/*.report; do
 done
 try_run /dev/null make --points 20
 try_run /dev/null trial --points 20
+printf '%-49s %7d %7d %7d\n' 'all' "$all_refused" "$all_silent" "$all_same"
 [ "$faults" = 0 ]

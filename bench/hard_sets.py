@@ -49,6 +49,29 @@ def turn(k):
     return 2 * math.pi * k / N
 
 
+# A column on the left, a bowed chain, a straight row above it and two points far away on the right: windows have all of
+# the chain, and each of its points sees all others past those between, but few are neighbours.
+def chain(length, column):
+    step, rise = 1_990_000_000 // length, length * length // 1_000 + 2_000
+    x = [step * i - 999_000_000 for i in range(length)]
+    far = [(10**9, -2_000_005), (10**9, length * length + rise + 10**8)]
+    return [(-(10**9), -k) for k in range(column)] + [(x[i], i * i) for i in range(length)] + [(x[i], length * i + rise) for i in range(length)] + far
+
+
+# A bowed chain that stands upright at x, bulging to the right or to the left, and a straight row of as many points behind
+# it, so that few of them are neighbours. From far away on the other side of the row all of the chain is seen.
+def screen(count, x, bulge, behind):
+    step, middle = 1_800_000_000 // count, count // 2
+    sag = [(i - middle) * (i - middle + 1) // 2 for i in range(count)]
+    y = [step * (i - middle) for i in range(count)]
+    back = x + behind * (max(sag) + 1_000)
+    return [(x - bulge * sag[i], y[i]) for i in range(count)] + [(back, y[i]) for i in range(count)]
+
+
+def column(count, x, step):
+    return [(x, step * i) for i in range(count)]
+
+
 SETS = {
     "random_5000": lambda: uniform(5_000),
     "random_10000": lambda: uniform(N),
@@ -73,6 +96,15 @@ SETS = {
     "circle": lambda: [around(HALF, turn(k)) for k in range(N)],
     "axes": lambda: [p for i in range(1, 2_501) for p in ((i, 0), (-i, 0), (0, i), (0, -i))],
     "ring": lambda: [around(HALF + draw.uniform(-1e3, 1e3), turn(draw.uniform(0, N))) for _ in range(N)],
+    **{f"chain_{n}_{k}": lambda n=n, k=k: chain(n, k) for n in (500, 1_000, 2_000, 4_900) for k in (1, 5, 60)},
+    "corner_of_4900": lambda: column(1, -(10**9), 0) + screen(4_900, 9 * 10**8, 1, 1),
+    "corners_39_of_4900": lambda: column(39, -(10**9), 1_000) + screen(4_900, 9 * 10**8, 1, 1),
+    "corners_39_bulged": lambda: column(39, -(10**9), 1_000) + screen(4_900, 9 * 10**8, -1, 1),
+    "4900_see_2": lambda: screen(4_900, -9 * 10**8, 1, -1) + column(2, 10**9, 10**8),
+    "4900_see_40": lambda: screen(4_900, -9 * 10**8, 1, -1) + column(40, 10**9, 10**6),
+    "4900_see_40_bulged": lambda: screen(4_900, -9 * 10**8, -1, -1) + column(40, 10**9, 10**6),
+    "1800_see_200": lambda: screen(1_800, -9 * 10**8, 1, -1) + column(200, 10**9, 10**6),
+    "combs": lambda: [(1_000 * i + j, 10**6 * j * j) for i in range(100) for j in range(30)] + [(10**9, 10**8 * j) for j in range(-9, 10)],
     "two_rows": lambda: [(i * 1_000, 0) for i in range(5_000)] + [(i * 1_000 + draw.randrange(1_000), 10**6) for i in range(5_000)],
 }
 
