@@ -1,6 +1,7 @@
 // Tests of the texts of reports. The texts and what they must give were worked out by another program from
 // the rules.
 
+mod reading;
 mod refusals;
 mod texts;
 

@@ -1,6 +1,6 @@
 -- The triangles of a part are those of its two parts and the one between; those of a face as well.
-use Rattle.std.proofs.Common.{◌≡◌, ◌≢◌, ℕ, ◌+◌, ◌*◌, ◌<◌, ◌≤◌, nat_lt, List, [], ◌∷◌, ◌++◌, length, set, take, slice_index, slice_index_or, false, Contains, arith, refl, ap, sym, ◌∙◌, subst, ⊎_elim, add-one, append_assoc, get_or-set_other, get_or-set_same}
-use Rattle.std.proofs.lemmas.Bool.{both_ways, cases_eq, cases_lt, cond-false, cond-true, le-ltb, lt-ltb}
+use Rattle.std.proofs.Common.{◌≡◌, ◌≢◌, ℕ, ◌+◌, ◌*◌, ◌<◌, ◌≤◌, List, [], ◌∷◌, ◌++◌, length, set, take, slice_index, slice_index_or, false, Contains, arith, refl, ap, sym, ◌∙◌, subst, ⊎_elim, add-one, append_assoc, get_or-set_other, get_or-set_same}
+use Rattle.std.proofs.lemmas.Bool.{both_ways, cases_eq, cases_lt}
 use Rattle.std.proofs.lemmas.List.{append-nil, length-set, take_more}
 use Rattle.exact_predicates.specs.declared.tri.Tri.{Tri}
 use Rattle.exact_predicates.specs.Candidates.{HasEdge}
@@ -23,19 +23,13 @@ use Rattle.face_optimum.proofs.Parts.{joined, part_of_cut, side_part}
 use Rattle.face_optimum.proofs.Rounds.{round_end, round_within}
 use Rattle.face_optimum.proofs.Seated.{AreSeating, same_face, seating, sits_on_last}
 use Rattle.lmt_network.proofs.TriangleSides.{number_once}
+use Rattle.face_optimum.proofs.SideKeys.{key_down, key_once, key_up}
 use Rattle.face_optimum.proofs.Small.{AreSmall, sizes_of}
 use Rattle.face_optimum.proofs.Tilings.{tiling_more, tiling_none}
 
 -- the bounded faces of a site
 pub seating_of : (s : Site) → IsSite s → AreSeating s.net.now.points (live_edges s.net.now s.flags.now) s.skeleton.now (faces_of s)
 seating_of s h = seating s.net.now.points s.net.now.hull (live_edges s.net.now s.flags.now) s.skeleton.now h.cycles (faces_of s) h.faces_are h.rings_are h.filled
-
--- which edge a key is of
-pub key_up : (e u v : ℕ) → u < v → side_key e u v ≡ 2 * e
-key_up e u v up = ap (λ k. 2 * e + k) (cond-true (nat_lt u v) 0 1 (lt-ltb u v up)) ∙ omega arith
-
-pub key_down : (e u v : ℕ) → v < u → side_key e u v ≡ 2 * e + 1
-key_down e u v down = ap (λ k. 2 * e + k) (cond-false (nat_lt u v) 0 1 (le-ltb u v (omega arith)))
 
 -- three lists end to end, and one element between the first two
 end_to_end : (old : List Tri) (t : Tri) (ts us xs ys zs : List Tri) → xs ≡ old ++ t ∷ [] → ys ≡ xs ++ ts → zs ≡ ys ++ us → zs ≡ old ++ (t ∷ (ts ++ us))
@@ -129,34 +123,6 @@ module _ (s : Site) (h : IsSite s) (costs : List ℕ) where
       let bc = j.sits.middle_below in
       omega (arith, one, two, size, last, ab, bc, b.sum)
 
-  -- a side is known by its key
-  key_once : (u v e x y d : ℕ) → IsNumberOf s.net.now u v e → IsNumberOf s.net.now x y d → side_key e u v ≡ side_key d x y → (u ≡ x) × (v ≡ y)
-  key_once u v e x y d e_is d_is same =
-      ⊎_elim
-      (λ (up : u < v). ⊎_elim
-      (λ (up_d : x < y).
-      let edge : e ≡ d = omega (arith, same, key_up e u v up, key_up d x y up_d) in
-      let a = ap (λ k. (edge_at s.net.now k).a) edge in
-      let b = ap (λ k. (edge_at s.net.now k).b) edge in
-      (omega (arith, a, e_is.1.0, d_is.1.0), omega (arith, b, e_is.1.1, d_is.1.1)))
-      (λ (down_d : y ≤ x). let z = apart d x y d_is in absurd (omega (arith, same, key_up e u v up, key_down d x y (omega arith))))
-      (cases_lt x y))
-      (λ (down : v ≤ u).
-      let less : v < u = let z = apart e u v e_is in omega arith in
-      ⊎_elim
-      (λ (up_d : x < y). absurd (omega (arith, same, key_down e u v less, key_up d x y up_d)))
-      (λ (down_d : y ≤ x).
-      let less_d : y < x = let z = apart d x y d_is in omega arith in
-      let edge : e ≡ d = omega (arith, same, key_down e u v less, key_down d x y less_d) in
-      let a = ap (λ k. (edge_at s.net.now k).a) edge in
-      let b = ap (λ k. (edge_at s.net.now k).b) edge in
-      (omega (arith, b, e_is.1.1, d_is.1.1), omega (arith, a, e_is.1.0, d_is.1.0)))
-      (cases_lt x y))
-      (cases_lt u v)
-    where
-      apart : (e u v : ℕ) → IsNumberOf s.net.now u v e → u ≢ v
-      apart e u v is z = let l = (edge_at s.net.now e).ascending in let a = is.1.0 in let b = is.1.1 in absurd (omega arith)
-
   round_of : (g x y : ℕ) → g < length (faces_of s) → IsLastSide s g x y → HasRoundSide (face_at (faces_of s) g) x y
   round_of g x y g_in (last, last_is, from, to) =
       (last, omega arith, round_within (face_at (faces_of s) g) last (omega arith) ∙ from, round_end (face_at (faces_of s) g) (last + 1) last_is ∙ to)
@@ -184,7 +150,7 @@ module _ (s : Site) (h : IsSite s) (costs : List ℕ) where
               (cases_eq key (side_key e u v));
           others = λ a b d d_is none.
               get_or-set_other root_costs (side_key e u v) (side_key d a b) c.sum 0
-              (λ same. let k = key_once a b d u v e d_is e_is same in none f (omega arith) (last, last_is, from ∙ sym k.0, to ∙ sym k.1))
+              (λ same. let k = key_once s.net.now a b d u v e d_is e_is same in none f (omega arith) (last, last_is, from ∙ sym k.0, to ∙ sym k.1))
               ∙ old.root_costs_are.others a b d d_is (λ g l. none g (omega arith));
         };
       }
@@ -246,7 +212,7 @@ module _ (s : Site) (h : IsSite s) (costs : List ℕ) where
       before g a b d l side d_is =
           let (k, k_best, k_lack) = old.root_costs_are.last_sides g a b d l side d_is in
           let far : side_key d a b ≢ side_key e u v = λ same.
-          let z = key_once a b d u v e d_is e_is same in
+          let z = key_once s.net.now a b d u v e d_is e_is same in
           let here : IsLastSide s f a b = (last, last_is, from ∙ sym z.0, to ∙ sym z.1) in
           let one = same_face s.net.now.points (live_edges s.net.now s.flags.now) s.skeleton.now (faces_of s) (seating_of s h) g f a b (omega arith) f_in (round_of g a b (omega arith) side) (round_of f a b f_in here) in
           absurd (omega arith) in

@@ -1,6 +1,7 @@
 pub mod Best
 pub mod BoundedFaces
 pub mod Choosing
+pub mod CornerOrder
 pub mod Costing
 pub mod Covers
 pub mod Deciding
@@ -31,6 +32,7 @@ pub mod Rounds
 pub mod Ruled
 pub mod Seated
 pub mod Shares
+pub mod SideKeys
 pub mod SideSeating
 pub mod Sides
 pub mod SkeletonFacts

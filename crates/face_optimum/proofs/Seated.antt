@@ -1,5 +1,5 @@
 -- Where live triangles with a given side sit.
-use Rattle.std.proofs.Common.{◌≡◌, ◌≢◌, ◌⊎◌, ℕ, ◌+◌, ◌<◌, not, List, [], length, slice_index, All, AllPairs, arith, ap, sym, ◌∙◌, subst, ⊎_elim, inl, inr}
+use Rattle.std.proofs.Common.{◌≡◌, ◌≢◌, ◌⊎◌, ℕ, ◌+◌, ◌<◌, not, List, [], length, slice_index, All, AllPairs, arith, ap, sym, ◌∙◌, subst, ⊎_elim}
 use Rattle.std.proofs.lemmas.Bool.{cases_order}
 use Rattle.std.proofs.lemmas.List.Elements.{All-filter}
 use Rattle.std.proofs.lemmas.List.Kept.{AllPairs-filter}
@@ -12,37 +12,8 @@ use Rattle.exact_predicates.proofs.Equalities.{Contains-HasEdge, HasEdge-comm, J
 use Rattle.skeleton_faces.specs.Faces.{AreFaces, HasRoundSide, IsFace, round_at}
 use Rattle.face_optimum.specs.Decomposition.{AreFilled, bounded_faces, is_outer}
 use Rattle.face_optimum.specs.Places.{AreJoinedPlaces, IsEdgeAt, IsEdgeAtOnePair, IsFaceSide, IsOffSkeleton, IsTriAt, IsTriAtOneTriple, face_at}
+use Rattle.face_optimum.proofs.CornerOrder.{corners_turned}
 use Rattle.face_optimum.proofs.Rounds.{round_end, round_within}
-
--- the corners of a triangle in cyclic order are known but for the one that comes first
-pub corners_turned : (t : Tri) (u v w x y z : ℕ) → HasCorners t u v w → HasCorners t x y z
-    → ((u ≡ x) × (v ≡ y) × (w ≡ z)) ⊎ (((v ≡ x) × (w ≡ y) × (u ≡ z)) ⊎ ((w ≡ x) × (u ≡ y) × (v ≡ z)))
-corners_turned t u v w x y z h k =
-    ⊎_elim
-    (λ a. ⊎_elim
-    (λ b. inl (sym a.0 ∙ b.0, sym a.1 ∙ b.1, sym a.2 ∙ b.2))
-    (λ n. ⊎_elim
-    (λ b. inr (inl (sym a.1 ∙ b.0, sym a.2 ∙ b.1, sym a.0 ∙ b.2)))
-    (λ b. inr (inr (sym a.2 ∙ b.0, sym a.0 ∙ b.1, sym a.1 ∙ b.2)))
-    n)
-    k)
-    (λ m. ⊎_elim
-    (λ a. ⊎_elim
-    (λ b. inr (inr (sym a.2 ∙ b.0, sym a.0 ∙ b.1, sym a.1 ∙ b.2)))
-    (λ n. ⊎_elim
-    (λ b. inl (sym a.0 ∙ b.0, sym a.1 ∙ b.1, sym a.2 ∙ b.2))
-    (λ b. inr (inl (sym a.1 ∙ b.0, sym a.2 ∙ b.1, sym a.0 ∙ b.2)))
-    n)
-    k)
-    (λ a. ⊎_elim
-    (λ b. inr (inl (sym a.1 ∙ b.0, sym a.2 ∙ b.1, sym a.0 ∙ b.2)))
-    (λ n. ⊎_elim
-    (λ b. inr (inr (sym a.2 ∙ b.0, sym a.0 ∙ b.1, sym a.1 ∙ b.2)))
-    (λ b. inl (sym a.0 ∙ b.0, sym a.1 ∙ b.1, sym a.2 ∙ b.2))
-    n)
-    k)
-    m)
-    h
 
 -- What the bounded faces keep where the skeleton decomposes.
 pub record AreSeating (ps : List Point) (live skeleton : List Edge) (faces : List (List ℕ)) : Type 0 where

@@ -26,10 +26,11 @@ use Rattle.face_optimum.specs.Priced.{ArePriced}
 use Rattle.face_optimum.specs.Places.{face_at}
 use Rattle.face_optimum.specs.Seats.{IsOff, edge_seat, first_point, last_point}
 use Rattle.face_optimum.specs.Sites.{IsSite, faces_of}
-use Rattle.face_optimum.proofs.Choosing.{key_down, key_up, seating_of}
+use Rattle.face_optimum.proofs.Choosing.{seating_of}
 use Rattle.face_optimum.proofs.Covers.{not_outside}
 use Rattle.face_optimum.proofs.Rounds.{round_end, round_within}
 use Rattle.face_optimum.proofs.Seated.{next_side, same_face, same_place}
+use Rattle.face_optimum.proofs.SideKeys.{key_down, key_up}
 
 module _ (s : Site) (h : IsSite s) (costs choices : List ℕ) (c : AreCosts s.net.now s.flags.now s.skeleton.now (faces_of s) s.edge_seats.now s.tri_seats.now costs choices)
     (root_costs : List ℕ) (l : AreRootCosts s costs (length (faces_of s)) root_costs) (table : PriceTable) (p : ArePriced s costs root_costs table) where

@@ -1,5 +1,5 @@
 -- Two reports of one file are alike.
-use Rattle.std.proofs.Common.{◌≡◌, ℕ, ◌+◌, ◌<◌, List, length, get_or, map, Contains, ℤ, pos, ◌-ℤ◌, lit<, arith, refl, ap, sym, ◌∙◌, subst}
+use Rattle.std.proofs.Common.{◌≡◌, ℕ, ◌<◌, List, length, get_or, map, Contains, ℤ, pos, ◌-ℤ◌, lit<, arith, refl, ap, sym, ◌∙◌, subst}
 use Rattle.std.specs.Prelude.{◌↔◌}
 use Rattle.std.proofs.lemmas.List.{ext_get_or, length-map}
 use Rattle.std.proofs.lemmas.List.Sorted.{Contains-permutation, IsPermutation-sym}
@@ -8,7 +8,6 @@ use Rattle.exact_predicates.specs.declared.diamond.Diamond.{Diamond}
 use Rattle.exact_predicates.specs.declared.edge.Edge.{Edge}
 use Rattle.exact_predicates.specs.declared.point.Point.{Point}
 use Rattle.exact_predicates.specs.declared.tri.Tri.{Tri}
-use Rattle.exact_predicates.specs.Candidates.{EdgePrecedes}
 use Rattle.exact_predicates.specs.Merging.{IsMadeFrom, firsts}
 use Rattle.exact_predicates.specs.Plane.{Precedes}
 use Rattle.exact_predicates.specs.Triangulation.{edges}
@@ -17,7 +16,6 @@ use Rattle.exact_predicates.proofs.Order.{Precedes-not}
 use Rattle.length_enclosure.specs.Enclosure.{lo, hi}
 use Rattle.lmt_network.specs.Live.{IsHullEdge}
 use Rattle.lmt_network.specs.Prices.{Priced, bound}
-use Rattle.lmt_network.specs.Skeleton.{AreSkeleton}
 use Rattle.price_ascent.proofs.Kept.{get_or-mapped}
 use Rattle.skeleton_faces.specs.Faces.{AreFaces}
 use Rattle.skeleton_faces.proofs.OneFaceList.{one_face_list}
@@ -42,20 +40,7 @@ use Rattle.mwt_tool.specs.OneFile.{AreAlike, OneFileAlike, OneInputAlike, ShareE
 use Rattle.mwt_tool.specs.ReportOf.{HasAscentPrices, HasFaceOptimum, IsReportOf}
 use Rattle.mwt_tool.specs.Solves.{ReportsAs, Solves, solved, accepted, refused as file_refused, dense_edges as has_dense_edges, dense_triangles as has_dense_triangles}
 use Rattle.mwt_tool.proofs.OneAscent.{ascent_prices, candidates, hull, live, skeleton}
-
--- two methods, each of which is faces where the other is
-same_method : (m k : Method) → (m ≡ Faces → k ≡ Faces) → (k ≡ Faces → m ≡ Faces) → m ≡ k
-same_method Faces k to back = sym (to refl)
-same_method Flips Faces to back = back refl
-same_method Flips Flips to back = refl
-
--- two kinds of lines, each of which is of the hull, and of the skeleton, where the other is
-same_kind : (m k : LineKind) → (m ≡ Hull) ↔ (k ≡ Hull) → (m ≡ Skeleton) ↔ (k ≡ Skeleton) → m ≡ k
-same_kind Hull k h s = sym (h.0 refl)
-same_kind Skeleton k h s = sym (s.0 refl)
-same_kind Inner Hull h s = h.1 refl
-same_kind Inner Skeleton h s = s.1 refl
-same_kind Inner Inner h s = refl
+use Rattle.mwt_tool.proofs.SameKinds.{same_kind, same_method}
 
 same_line : (l m : PriceLine) → price_of l ≡ price_of m → l.kind ≡ m.kind → l ≡ m
 same_line l m price kind =
