@@ -14,7 +14,7 @@ pub enum LineKind {
 
 /// A live edge with its amounts, in millionths of the unit: `value` is the anchor of an edge of the hull
 /// and the price of any other; `left` and `right` are the anchors of an edge of the kind `Skeleton`, else 0.
-#[derive(Clone, Copy)]
+#[derive(Clone, Copy, Debug)]
 pub struct PriceLine {
     pub edge: Edge,
     pub kind: LineKind,

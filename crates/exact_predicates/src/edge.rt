@@ -3,7 +3,7 @@ ghost use Rattle.std.specs.Prelude.{◌≡◌, ◌≢◌, ◌<◌, min, max};
 
 /// The segment between the points with the numbers `a` and `b`, of which `a` is the less.
 /// Edges are ordered by `a` and then by `b`.
-#[derive(Clone, Copy, PartialEq, Eq, PartialOrd, Ord)]
+#[derive(Clone, Copy, Debug, PartialEq, Eq, PartialOrd, Ord)]
 pub struct Edge {
     pub a: u32,
     pub b: u32,

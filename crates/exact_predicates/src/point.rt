@@ -4,7 +4,7 @@ ghost use Rattle.exact_predicates.specs.Merging.{is_in_range};
 ghost use Rattle.exact_predicates.specs.Plane.{IsInRange, orient, dot, d2};
 
 /// A point, with the number that it has in its file. Coordinates are in scaled units.
-#[derive(Clone, Copy)]
+#[derive(Clone, Copy, Debug)]
 pub struct Point {
     pub id: u32,
     pub x: i64,

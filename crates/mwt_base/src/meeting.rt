@@ -37,12 +37,12 @@ impl MeetGate {
         2u64.saturating_sub(self.met.load(Ordering::SeqCst))
     }
 
-    // Holds a worker that comes for the first time until the other has come.
-    fn hold(&self, came: &AtomicBool, other_came: &AtomicBool) {
+    // Holds a worker that comes for the first time until the other has come, for so many turns at most.
+    fn hold(&self, came: &AtomicBool, other_came: &AtomicBool, turns: u32) {
         if came.swap(true, Ordering::SeqCst) {
             return;
         }
-        for _ in 0..MOST_TURNS {
+        for _ in 0..turns {
             if other_came.load(Ordering::SeqCst) {
                 self.met.fetch_add(1, Ordering::SeqCst);
                 return;
@@ -58,9 +58,12 @@ impl Gate for MeetGate {
             return;
         }
         match worker {
-            0 => self.hold(&self.first_came, &self.second_came),
-            1 => self.hold(&self.second_came, &self.first_came),
+            0 => self.hold(&self.first_came, &self.second_came, MOST_TURNS),
+            1 => self.hold(&self.second_came, &self.first_came, MOST_TURNS),
             _ => {}
         }
     }
 }
+
+#[cfg(test)]
+mod tests;
