@@ -6,7 +6,7 @@ ghost use Rattle.diamond_edges.specs.Enumeration.{IsLinked};
 ghost use Rattle.diamond_edges.specs.Rows.{AreGuesses, IsBlocked, IsClear};
 
 use crate::sector::direction;
-use crate::slots::{Side, learn, slot_blocks};
+use crate::slots::{EdgeSide, learn, slot_blocks};
 use exact_predicates::{Point, Points};
 use point_grid::BoxTree;
 
@@ -16,7 +16,7 @@ fn is_blocked(
     points: &Points,
     tree: &BoxTree,
     slots: &mut [u32],
-    side: Side,
+    side: EdgeSide,
     direction: usize,
     p: &Point,
     q: &Point,
@@ -53,8 +53,8 @@ pub(crate) fn is_linked(points: &Points, tree: &BoxTree, slots: &mut [u32], a: u
     let p = points.at(a);
     let q = points.at(b);
     let direction = direction(p, q);
-    if !is_blocked(points, tree, slots, Side::Left, direction, p, q) {
+    if !is_blocked(points, tree, slots, EdgeSide::Left, direction, p, q) {
         return true;
     }
-    !is_blocked(points, tree, slots, Side::Right, direction, q, p)
+    !is_blocked(points, tree, slots, EdgeSide::Right, direction, q, p)
 }

@@ -27,19 +27,19 @@ const TRIES: usize = 1 + ASKED + LEARNED;
 
 /// A side of the edges from a point.
 #[derive(Clone, Copy)]
-pub(crate) enum Side {
+pub(crate) enum EdgeSide {
     Left,
     Right,
 }
 
-impl Side {
+impl EdgeSide {
     // The slot for the point that blocked this side last.
     fn last(self) -> usize
         ensures { result ≤ 41 }
     {
         match self {
-            Side::Left => DIRECTIONS,
-            Side::Right => DIRECTIONS + 1 + LEARNED,
+            EdgeSide::Left => DIRECTIONS,
+            EdgeSide::Right => DIRECTIONS + 1 + LEARNED,
         }
     }
 
@@ -57,8 +57,8 @@ impl Side {
             return self.last() + (k - ASKED);
         }
         let first = match self {
-            Side::Left => direction,
-            Side::Right => direction + (DIRECTIONS + 1 - ASKED),
+            EdgeSide::Left => direction,
+            EdgeSide::Right => direction + (DIRECTIONS + 1 - ASKED),
         };
         (first + k - 1) % DIRECTIONS
     }
@@ -82,7 +82,7 @@ pub(crate) fn note(points: &Points, a: u32, w: u32, slots: &mut [u32])
 }
 
 /// Keeps the point `w`, which blocked this side of an edge, before those that did earlier.
-pub(crate) fn learn(points: &Points, w: u32, side: Side, slots: &mut [u32])
+pub(crate) fn learn(points: &Points, w: u32, side: EdgeSide, slots: &mut [u32])
     requires w_in { w < length points.now.points }
     requires slots { AreGuesses points.now.points slots.old }
     ensures { AreGuesses points.now.points slots.new }
@@ -99,7 +99,7 @@ pub(crate) fn learn(points: &Points, w: u32, side: Side, slots: &mut [u32])
 pub(crate) fn slot_blocks(
     points: &Points,
     slots: &mut [u32],
-    side: Side,
+    side: EdgeSide,
     direction: usize,
     p: &Point,
     q: &Point,
@@ -132,7 +132,7 @@ fn slot_blocks_left(points: &Points, slots: &[u32], direction: usize, a: u32, fr
 {
     let p = points.at(a);
     for k in 0..TRIES {
-        let w = slots[Side::Left.slot(direction, k)];
+        let w = slots[EdgeSide::Left.slot(direction, k)];
         if w != a {
             if blocks_left_of_all(p, points.at(w), frame) {
                 return true;
@@ -160,7 +160,7 @@ fn slot_blocks_right(
 {
     let p = points.at(a);
     for k in 0..TRIES {
-        let w = slots[Side::Right.slot(direction, k)];
+        let w = slots[EdgeSide::Right.slot(direction, k)];
         if w != a {
             if blocks_right_of_all(p, points.at(w), frame) {
                 return true;

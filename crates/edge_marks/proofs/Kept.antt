@@ -13,7 +13,7 @@ use Rattle.lmt_network.specs.Numbers.{IsDead}
 use Rattle.edge_marks.specs.declared.view.Known.{Known}
 use Rattle.edge_marks.specs.declared.view.About.{About}
 use Rattle.edge_marks.specs.Words.{mark_of}
-use Rattle.edge_marks.specs.Rule.{begun, finished, weight, ViewHolds, total, is_busy, tries, splits_of, MarksHold}
+use Rattle.edge_marks.specs.Rule.{begun, finished, one_if, ViewHolds, total, is_busy, tries, splits_of, MarksHold}
 use Rattle.edge_marks.proofs.Members.{any_after, distinct_length, item_at}
 use Rattle.edge_marks.proofs.Totals.{total_set, total_at, total_at_most}
 
@@ -74,7 +74,7 @@ module _ (k : About) where
     open_kills = let t = total_set is_busy s.views id d w at in let o = m.open_kills in omega arith;
     kills = let t = total_set tries s.views id d w at in let o = m.kills in omega arith;
     seated = let t = total_set splits_of s.views id d w at in let l = length-set s.views id w in let h = r.seated in omega arith;
-    noted = λ j e h. let p = was s.views id d w at a b c j e h in let q = r.noted j p.from p.at in let q₀ = q.0 in let p₁ = p.slot in let p₂ = p.splits in let p₃ = ap weight p.noted in
+    noted = λ j e h. let p = was s.views id d w at a b c j e h in let q = r.noted j p.from p.at in let q₀ = q.0 in let p₁ = p.slot in let p₂ = p.splits in let p₃ = ap one_if p.noted in
         let first : e.slot + e.splits < k.seats = omega arith in (first, λ i lo hi. q.1 i (omega arith) (omega arith));
     apart = λ i j x y n h₁ h₂. let p = was s.views id d w at a b c i x h₁ in let q = was s.views id d w at a b c j y h₂ in let p₁ = p.slot in let p₂ = p.splits in let q₁ = q.slot in let q₂ = q.splits in
         ⊎_elim

@@ -4,7 +4,7 @@ use mathlib.Core.Logic.{dite}
 use native.Mathlib.Decide.{ℕ_discrete}
 use Rattle.std.specs.Int.{bit_at}
 use Rattle.std.proofs.lemmas.Nat.Bits.{bit_at_or, bit_at-pow_same, bit_at-pow_other, bit_at-lt, bit_at-zero}
-use Rattle.edge_marks.specs.Rule.{weight}
+use Rattle.edge_marks.specs.Rule.{one_if}
 use Rattle.edge_marks.specs.Words.{mark_of}
 
 -- the words with the bit of e set
@@ -22,7 +22,7 @@ mark_else ws e f low other = let w : ℕ = get_or ws (e / 64) 0 in let k : ℕ =
     ∙ (bit_at_or w (2 ^ k) j ∙ (ap (max (bit_at w j)) (bit_at-pow_other k j apart) ∙ (m ∙ ap (λ (i : ℕ). bit_at (get_or ws i 0) j) (sym same))))))
     (λ ne. ap (λ (n : ℕ). bit_at n j) (get_or-set_other ws (e / 64) (f / 64) (bit_or w (2 ^ k)) 0 ne))
 
-pub weight_one : (b : Bool) → weight b ≡ 1 → b ≡ true
+pub weight_one : (b : Bool) → one_if b ≡ 1 → b ≡ true
 weight_one true h = refl
 weight_one false h = absurd (omega arith)
 

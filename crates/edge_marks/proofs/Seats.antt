@@ -13,7 +13,7 @@ use Rattle.lmt_network.proofs.Picked.{Contains-nil}
 use Rattle.edge_marks.specs.declared.view.Known.{Known}
 use Rattle.edge_marks.specs.declared.view.About.{About}
 use Rattle.edge_marks.specs.Words.{bit_in, mark_of}
-use Rattle.edge_marks.specs.Rule.{first_view, weight, ViewHolds, is_busy, tries, splits_of, MarksHold}
+use Rattle.edge_marks.specs.Rule.{first_view, one_if, ViewHolds, is_busy, tries, splits_of, MarksHold}
 use Rattle.edge_marks.specs.Plays.{Sitting, noted_view, took_note, left_view, right_view}
 use Rattle.edge_marks.proofs.Members.{any_after, any_more, contains_more}
 use Rattle.edge_marks.proofs.Apart.{AreApart, apart_set, apart_last}
@@ -25,13 +25,13 @@ no_mark ws blank e = ap (λ (x : ℕ). bit_in x e) (blank (e / 64)) ∙ bit_at-z
 
 -- the slots of a view: its own last one is below `seats`, and those at home
 abbrev HasNotes : ℕ → List (maybe.Option ℕ) → Known → Type 0
-HasNotes seats homes d = (d.slot + d.splits < seats) × ((i : ℕ) → d.slot + weight d.noted ≤ i → i ≤ d.slot + d.splits → (y : ℕ) × (get_elem? homes (i * 32) ≡ some (some y)))
+HasNotes seats homes d = (d.slot + d.splits < seats) × ((i : ℕ) → d.slot + one_if d.noted ≤ i → i ≤ d.slot + d.splits → (y : ℕ) × (get_elem? homes (i * 32) ≡ some (some y)))
 
 at_only : (v d : Known) (i : ℕ) → get_elem? (v ∷ []) i ≡ some d → i ≡ 0
 at_only v d zero h = refl
 at_only v d (suc i) h = absurd (some-ne-none d (sym h))
 
-weight_most : (b : Bool) → weight b ≤ 1
+weight_most : (b : Bool) → one_if b ≤ 1
 weight_most true = omega arith
 weight_most false = omega arith
 
@@ -65,7 +65,7 @@ module _ (k : About) where
       }
 
   pub notes : (slots id : ℕ) (me : Sitting) → me.1 ≡ [] → me.0.noted ≡ false → Allows (MarksHold k) slots id me 0 (λ x. x) (took_note (step slots 0 0 0 none) me)
-  notes slots id me bare new s r _ at fits = let n : NetworkParts = net k in let d : Known = me.0 in let v = r.each id d at in let w : Known = noted_view d in let z = ap weight new in let mine = r.noted id d at in let home = mine.1 d.slot (omega arith) (omega arith) in
+  notes slots id me bare new s r _ at fits = let n : NetworkParts = net k in let d : Known = me.0 in let v = r.each id d at in let w : Known = noted_view d in let z = ap one_if new in let mine = r.noted id d at in let home = mine.1 d.slot (omega arith) (omega arith) in
       let hs : List (maybe.Option ℕ) = set s.homes (d.slot * 32) none in (
         w,
         takes (d.slot * 32) home.0,

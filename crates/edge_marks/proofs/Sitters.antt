@@ -9,7 +9,7 @@ use Rattle.lmt_network.specs.Network.{NetworkParts}
 use Rattle.edge_marks.specs.declared.view.Phase.TheVariants.{Begun, Marked}
 use Rattle.edge_marks.specs.declared.view.Known.{Known}
 use Rattle.edge_marks.specs.Words.{mark_of}
-use Rattle.edge_marks.specs.Rule.{weight}
+use Rattle.edge_marks.specs.Rule.{one_if}
 use Rattle.edge_marks.specs.Handles.{SeatView, MarksView, Belongs, IsSeated, has_number}
 use Rattle.edge_marks.proofs.Members.{all_front, all_end}
 use Rattle.edge_marks.proofs.Packed.{blank_mark}
@@ -58,8 +58,8 @@ module _ (d : Known) (carried : List (ℕ × ℕ)) (slot : ℕ) (bits : List ℕ
     splits = h.splits;
     wide = wide ∙ h.wide;
     bits_are = λ g low. dite (ℕ_discrete g e)
-        (λ (z : g ≡ e). ap (mark_of bits') z ∙ (here ∙ ap (λ (t : Bool). weight (cond t true (has_number g d.tried))) (sym (eq-eqb e g (sym z)))))
-        (λ z. others g z ∙ (h.bits_are g low ∙ ap (λ (t : Bool). weight (cond t true (has_number g d.tried))) (sym (ne_eqb e g (λ q. z (sym q))))));
+        (λ (z : g ≡ e). ap (mark_of bits') z ∙ (here ∙ ap (λ (t : Bool). one_if (cond t true (has_number g d.tried))) (sym (eq-eqb e g (sym z)))))
+        (λ z. others g z ∙ (h.bits_are g low ∙ ap (λ (t : Bool). one_if (cond t true (has_number g d.tried))) (sym (ne_eqb e g (λ q. z (sym q))))));
     blank = h.blank;
     few = h.few;
   }

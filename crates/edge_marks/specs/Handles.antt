@@ -10,7 +10,7 @@ use Rattle.edge_marks.specs.declared.view.Phase.TheVariants.{Idle}
 use Rattle.edge_marks.specs.declared.view.Known.{Known}
 use Rattle.edge_marks.specs.declared.view.About.{About}
 use Rattle.edge_marks.specs.Words.{mark_of, mark_words}
-use Rattle.edge_marks.specs.Rule.{weight, MarksHold}
+use Rattle.edge_marks.specs.Rule.{one_if, MarksHold}
 
 -- a seat: the table that it belongs to, its number there, and what it knows
 pub record SeatView : Type 0 where
@@ -63,6 +63,6 @@ pub record IsSeated (known : Known) (carried : List (ℕ × ℕ)) (slot : ℕ) (
   pub idle : known.phase ≡ Idle
   pub splits : known.splits ≡ length spare
   pub wide : length bits ≡ mark_words known.net
-  pub bits_are : (e : ℕ) → e < length known.net.edges → mark_of bits e ≡ weight (has_number e known.tried)
+  pub bits_are : (e : ℕ) → e < length known.net.edges → mark_of bits e ≡ one_if (has_number e known.tried)
   pub blank : All (λ row. row.items ≡ replicate (mark_words known.net) 0) spare
   pub few : slot + known.splits ≤ 64

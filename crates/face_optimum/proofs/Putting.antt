@@ -11,7 +11,7 @@ use Rattle.lmt_network.specs.PriceTables.{entry_at}
 use Rattle.lmt_network.specs.Prices.{Priced}
 use Rattle.lmt_network.proofs.Naming.{flags_named}
 use Rattle.lmt_network.proofs.Picked.{flag_from_live, picked_in}
-use Rattle.price_ascent.specs.declared.entry.Entry.{Entry}
+use Rattle.price_ascent.specs.declared.entry.PriceEntry.{PriceEntry}
 use Rattle.price_ascent.specs.Belonging.{AreEntriesOf, IsWithinRanges}
 use Rattle.price_ascent.specs.Entries.{anchored_edges, live_of, table_of, with_amounts}
 use Rattle.face_optimum.specs.declared.face_prices.Amounts.{Amounts}
@@ -67,7 +67,7 @@ module _ (s : Site) (h : IsSite s) (costs root_costs : List ℕ) where
       at (skeleton_edge has away) = inl ((are (edge_at s.net.now e)).1 (has, away))
 
   -- one more edge
-  pub put_more : (e : ℕ) (a : Amounts) (es fs : List Entry) → ArePutUpto s costs root_costs e es → IsAmountsOf s costs root_costs e a
+  pub put_more : (e : ℕ) (a : Amounts) (es fs : List PriceEntry) → ArePutUpto s costs root_costs e es → IsAmountsOf s costs root_costs e a
       → IsWithinRanges s.net.now.hull (with_amounts s.net.now e a.value a.left a.right) → AreEntriesOf s.net.now fs
       → entry_at s.net.now (table_of fs) e ≡ with_amounts s.net.now e a.value a.left a.right
       → ((f : ℕ) → f ≢ e → entry_at s.net.now (table_of fs) f ≡ entry_at s.net.now (table_of es) f)
@@ -88,7 +88,7 @@ module _ (s : Site) (h : IsSite s) (costs root_costs : List ℕ) where
             (cases_eq f e);
       }
 
-  pub put_none : (e : ℕ) (es : List Entry) → e < length s.net.now.edges → slice_index_or s.flags.now e false ≡ false → ArePutUpto s costs root_costs e es → ArePutUpto s costs root_costs (e + 1) es
+  pub put_none : (e : ℕ) (es : List PriceEntry) → e < length s.net.now.edges → slice_index_or s.flags.now e false ≡ false → ArePutUpto s costs root_costs e es → ArePutUpto s costs root_costs (e + 1) es
   put_none e es e_in dead before =
       record {
         entries = before.entries;
@@ -105,7 +105,7 @@ module _ (s : Site) (h : IsSite s) (costs root_costs : List ℕ) where
       }
 
   -- and all of them
-  pub put_all : (es : List Entry) → ArePutUpto s costs root_costs (length s.net.now.edges) es → ArePriced s costs root_costs (table_of es)
+  pub put_all : (es : List PriceEntry) → ArePutUpto s costs root_costs (length s.net.now.edges) es → ArePriced s costs root_costs (table_of es)
   put_all es all =
       record {
         parts = λ e out. (all.done e out.0).part out;

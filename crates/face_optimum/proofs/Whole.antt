@@ -11,7 +11,7 @@ use Rattle.lmt_network.specs.PriceTables.{entry_at, table_prices}
 use Rattle.lmt_network.specs.Prices.{IsFeasible, IsTight, Priced, bound}
 use Rattle.lmt_network.proofs.Naming.{flags_named}
 use Rattle.lmt_network.proofs.Picked.{All-from_members, flag_from_live}
-use Rattle.price_ascent.specs.declared.entry.Entry.{Entry}
+use Rattle.price_ascent.specs.declared.entry.PriceEntry.{PriceEntry}
 use Rattle.price_ascent.specs.Belonging.{IsWithinRanges}
 use Rattle.price_ascent.specs.Entries.{anchored_edges, prices_of, table_of}
 use Rattle.face_optimum.specs.declared.site.Site.{Site}
@@ -30,7 +30,7 @@ use Rattle.face_optimum.proofs.Tilings.{tiling_moved}
 
 module _ (s : Site) (h : IsSite s) (costs choices : List ℕ) (c : AreCosts s.net.now s.flags.now s.skeleton.now (faces_of s) s.edge_seats.now s.tri_seats.now costs choices)
     (root_costs : List ℕ) (ts us : List Tri) (chosen : AreChosenUpto s costs (length (faces_of s)) ts root_costs) (same : IsPermutation ts us) (up : IsSorted tri_cmp us)
-    (es : List Entry) (put : ArePutUpto s costs root_costs (length s.net.now.edges) es) where
+    (es : List PriceEntry) (put : ArePutUpto s costs root_costs (length s.net.now.edges) es) where
   tiling : IsTiling (IsChosenTri s costs) s.skeleton.now (faces_of s) us
   tiling =
       tiling_moved (IsChosenTri s costs) s.skeleton.now (faces_of s) ts us same

@@ -11,7 +11,7 @@ use Rattle.lmt_network.specs.Flags.{live_edges}
 use Rattle.lmt_network.specs.Live.{IsHullEdge}
 use Rattle.lmt_network.specs.Network.{NetworkParts}
 use Rattle.lmt_network.specs.Prices.{IsFeasible, IsTight, bound}
-use Rattle.price_ascent.specs.declared.entry.Entry.{Entry}
+use Rattle.price_ascent.specs.declared.entry.PriceEntry.{PriceEntry}
 use Rattle.price_ascent.specs.Belonging.{AreEntriesOf, IsWithinRanges}
 use Rattle.price_ascent.specs.Entries.{anchored_edges, live_of, prices_of}
 use Rattle.face_optimum.specs.FaceRule.{FollowsFaceRule}
@@ -23,7 +23,7 @@ AreInnerSkeleton hull skeleton anchored = (e : Edge) → Contains anchored e ↔
 -- A triangulation whose edges are live, its triangles ascending; and prices of the live edges, with anchors on both sides of
 -- the inner edges of the skeleton, within the ranges of a report, feasible and tight, whose bound is the length of the
 -- triangulation in whole millionths. Both follow the rule on these faces.
-pub record IsFaceOptimum (n : NetworkParts) (flags : List Bool) (skeleton : List Edge) (faces : List (List ℕ)) (tris : List Tri) (prices : List Entry) : Type 0 where
+pub record IsFaceOptimum (n : NetworkParts) (flags : List Bool) (skeleton : List Edge) (faces : List (List ℕ)) (tris : List Tri) (prices : List PriceEntry) : Type 0 where
   pub triangulation : IsTriangulation n.points n.hull tris
   pub edges_live : HasEdgesIn n.hull tris (live_edges n flags)
   pub ascending : IsSorted tri_cmp tris

@@ -3,7 +3,7 @@ use Rattle.std.specs.Prelude.{◌≡◌, ℕ, ◌+◌, ◌*◌, ◌/◌, ◌<◌
 use Rattle.lmt_network.specs.Network.{edge_at}
 use Rattle.lmt_network.specs.Numbers.{IsHullNumber}
 use Rattle.lmt_network.specs.PriceTables.{PriceTable, entry_at}
-use Rattle.price_ascent.specs.declared.entry.Entry.{Entry}
+use Rattle.price_ascent.specs.declared.entry.PriceEntry.{PriceEntry}
 use Rattle.price_ascent.specs.Ascent.{left_at, right_at, value_at}
 use Rattle.price_ascent.specs.Belonging.{AreEntriesOf, IsWithinRanges}
 use Rattle.price_ascent.specs.Entries.{anchored_edges, live_of, table_of}
@@ -57,7 +57,7 @@ pub record ArePriced (s : Site) (costs root_costs : List ℕ) (table : PriceTabl
 
 -- Prices of the live edges with anchors on both sides of the inner edges of the skeleton. The first `count` edges have their
 -- amounts, within the ranges of a report.
-pub record ArePutUpto (s : Site) (costs root_costs : List ℕ) (count : ℕ) (prices : List Entry) : Type 0 where
+pub record ArePutUpto (s : Site) (costs root_costs : List ℕ) (count : ℕ) (prices : List PriceEntry) : Type 0 where
   pub entries : AreEntriesOf s.net.now prices
   pub live : live_of prices ≡ s.flags.now
   pub anchored : AreInnerSkeleton s.net.now.hull s.skeleton.now (anchored_edges s.net.now prices)

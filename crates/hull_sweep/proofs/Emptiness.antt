@@ -10,8 +10,8 @@ use Rattle.exact_predicates.specs.Triangulation.{IsCorner}
 use Rattle.exact_predicates.proofs.Numbers.{IsOrdered}
 use Rattle.exact_predicates.proofs.Orientation.{orient_turned, orient_swapped}
 use Rattle.exact_predicates.proofs.Triangles.{later_outside}
-use Rattle.hull_sweep.specs.declared.side.Side.{Side}
-use Rattle.hull_sweep.specs.declared.side.Side.TheVariants.{Lower, Upper}
+use Rattle.hull_sweep.specs.declared.chain.Chain.{Chain}
+use Rattle.hull_sweep.specs.declared.chain.Chain.TheVariants.{Lower, Upper}
 use Rattle.hull_sweep.specs.Chain.{turn}
 use Rattle.hull_sweep.specs.Join.{HasTriangle, IsEmptyBelow}
 use Rattle.hull_sweep.proofs.Chains.{IsAhead, pair_order, before_next}
@@ -43,7 +43,7 @@ all_stay_empty P n q ts o q_in h = All-weaker (IsEmptyBelow P q) (IsEmptyBelow P
 
 -- What the triangle of q with the pair from y up to x is, on either side: its corners, and that it has on its left what lies
 -- outside the pair and inside the two new ones.
-pub record IsTriangleOn (s : Side) (P : ℕ → Point) (y x q : ℕ) (t : Tri) : Type 0 where
+pub record IsTriangleOn (s : Chain) (P : ℕ → Point) (y x q : ℕ) (t : Tri) : Type 0 where
   pub corner : (r : ℕ) → (r ≡ y) ⊎ ((r ≡ x) ⊎ (r ≡ q)) → IsCorner t r
   pub known : (m : ℕ) → y < m → x < m → q < m → (t.a < m) × (t.b < m) × (t.c < m)
   pub turns_left : turn s (P y) (P x) (P q) <ℤ pos 0 → pos 0 <ℤ orient (P t.a) (P t.b) (P t.c)
@@ -52,7 +52,7 @@ pub record IsTriangleOn (s : Side) (P : ℕ → Point) (y x q : ℕ) (t : Tri) :
   pub high : (r : Point) → IsInClosedTriangle (P t.a) (P t.b) (P t.c) r → pos 0 ≤ℤ turn s (P q) (P x) r
 
 -- and that it is so
-pub triangle_on : (s : Side) (P : ℕ → Point) (y x q : ℕ) (t : Tri) → HasTriangle s y x q t → IsTriangleOn s P y x q t
+pub triangle_on : (s : Chain) (P : ℕ → Point) (y x q : ℕ) (t : Tri) → HasTriangle s y x q t → IsTriangleOn s P y x q t
 triangle_on Lower P y x q t (a, b, c) =
     record {
       corner = λ r. rw (a, b, c) (λ h. ⊎_elim (λ e. inl e) (λ k. ⊎_elim (λ e. inr (inr e)) (λ e. inr (inl e)) k) h);
@@ -72,7 +72,7 @@ triangle_on Upper P y x q t (a, b, c) =
       high = λ r. rw (a, b, c) (λ i. i.left_of_bc);
     }
 
-module _ {s : Side} {P : ℕ → Point} {n q count : ℕ} {f : ℕ → ℕ} (a : IsAhead s P n q count f) where
+module _ {s : Chain} {P : ℕ → Point} {n q count : ℕ} {f : ℕ → ℕ} (a : IsAhead s P n q count f) where
   -- a point below q in the triangle of q with a visible pair is an end of the pair
   in_triangle : (k r : ℕ) → k + 1 < count → r < q → turn s (P (f k)) (P (f (k + 1))) (P q) <ℤ pos 0
       → turn s (P (f k)) (P (f (k + 1))) (P r) ≤ℤ pos 0 → pos 0 ≤ℤ turn s (P (f k)) (P q) (P r) → pos 0 ≤ℤ turn s (P q) (P (f (k + 1))) (P r)

@@ -17,7 +17,7 @@ use Rattle.exact_predicates.proofs.Numbers.{IsOrdered-points}
 use Rattle.exact_predicates.proofs.Orientation.{orient_swapped, orient_turned}
 use Rattle.exact_predicates.proofs.Pairs.{hit_none}
 use Rattle.exact_predicates.proofs.Sides.{sum_by-flat_map, sum_by-sides}
-use Rattle.hull_sweep.specs.declared.side.Side.TheVariants.{Lower, Upper}
+use Rattle.hull_sweep.specs.declared.chain.Chain.TheVariants.{Lower, Upper}
 use Rattle.hull_sweep.specs.Chain.{IsChain}
 use Rattle.hull_sweep.specs.Join.{pair_count, IsEmptyBelow}
 use Rattle.hull_sweep.specs.Swept.{MeetAtEnds, IsSwept, IsOutline}

@@ -11,8 +11,8 @@ use Rattle.exact_predicates.proofs.Counts.{side_count-push}
 use Rattle.exact_predicates.proofs.Elements.{Any-append_left, Any-weaker}
 use Rattle.exact_predicates.proofs.Pairs.{hit_turned}
 use Rattle.exact_predicates.proofs.Sides.{sum_by-sides}
-use Rattle.hull_sweep.specs.declared.side.Side.{Side}
-use Rattle.hull_sweep.specs.declared.side.Side.TheVariants.{Lower, Upper}
+use Rattle.hull_sweep.specs.declared.chain.Chain.{Chain}
+use Rattle.hull_sweep.specs.declared.chain.Chain.TheVariants.{Lower, Upper}
 use Rattle.hull_sweep.specs.Chain.{turn}
 use Rattle.hull_sweep.specs.Join.{along, HasTriangle, IsEmptyBelow, IsJoin, GrowsByJoin}
 use Rattle.hull_sweep.specs.Rule.{JoinsVisiblePair}
@@ -22,7 +22,7 @@ use Rattle.hull_sweep.proofs.PairCounts.{pair_count-more}
 use Rattle.hull_sweep.proofs.Rules.{joins_visible}
 
 -- the sides of the triangle on the pair y, x: along the pair from y to q, and against those from x to q and from y to x
-new_sides : (s : Side) (y x q u v : ℕ) (t : Tri) → HasTriangle s y x q t
+new_sides : (s : Chain) (y x q u v : ℕ) (t : Tri) → HasTriangle s y x q t
     → sum_by (hit u v) (sides t) ≡ hit u v (along s y q) + hit v u (along s x q) + hit v u (along s y x)
 new_sides Lower y x q u v t (a, b, c) =
     omega (arith, sum_by-sides (hit u v) t y q x (inl (a, b, c)), hit_turned u v q x, hit_turned u v x y)
@@ -30,7 +30,7 @@ new_sides Upper y x q u v t (a, b, c) =
     omega (arith, sum_by-sides (hit u v) t y x q (inl (a, b, c)), hit_turned u v y x, hit_turned u v x q)
 
 -- nothing is joined yet, and all places are kept
-IsJoin-start : (s : Side) (P : ℕ → Point) (q : ℕ) (c : List ℕ) → 0 < length c → IsJoin s P q c (length c) []
+IsJoin-start : (s : Chain) (P : ℕ → Point) (q : ℕ) (c : List ℕ) → 0 < length c → IsJoin s P q c (length c) []
 IsJoin-start s P q c some =
     record {
       some = some;
@@ -46,7 +46,7 @@ IsJoin-start s P q c some =
     }
 
 -- one more triangle: the pair below the kept places is visible, and one place less is kept
-IsJoin-more : {s : Side} {P : ℕ → Point} {n q : ℕ} {c : List ℕ} → IsAhead s P n q (length c) (slice_index c) → (k kept less : ℕ) (ts : List Tri) (t : Tri)
+IsJoin-more : {s : Chain} {P : ℕ → Point} {n q : ℕ} {c : List ℕ} → IsAhead s P n q (length c) (slice_index c) → (k kept less : ℕ) (ts : List Tri) (t : Tri)
     → IsJoin s P q c kept ts → k + 2 ≡ kept → k + 1 ≡ less → turn s (P (slice_index c k)) (P (slice_index c (k + 1))) (P q) <ℤ pos 0
     → HasTriangle s (slice_index c k) (slice_index c (k + 1)) q t → IsJoin s P q c less (ts ++ t ∷ [])
 IsJoin-more {s = s} {P = P} {q = q} {c = c} a k kept less ts t j e d seen h =
@@ -81,11 +81,11 @@ IsJoin-more {s = s} {P = P} {q = q} {c = c} a k kept less ts t j e d seen h =
     }
 
 -- the triangles of a list do not grow before the first join
-pub GrowsByJoin-start : (s : Side) (P : ℕ → Point) (q : ℕ) (c : List ℕ) (old : List Tri) → 0 < length c → GrowsByJoin s P q c (length c) old old
+pub GrowsByJoin-start : (s : Chain) (P : ℕ → Point) (q : ℕ) (c : List ℕ) (old : List Tri) → 0 < length c → GrowsByJoin s P q c (length c) old old
 GrowsByJoin-start s P q c old some = record { added = []; grows = sym (append-nil old); join = IsJoin-start s P q c some }
 
 -- and grow by one at each
-pub GrowsByJoin-more : {s : Side} {P : ℕ → Point} {n q : ℕ} {c : List ℕ} → IsAhead s P n q (length c) (slice_index c) → (k kept less : ℕ) (old ts : List Tri) (t : Tri)
+pub GrowsByJoin-more : {s : Chain} {P : ℕ → Point} {n q : ℕ} {c : List ℕ} → IsAhead s P n q (length c) (slice_index c) → (k kept less : ℕ) (old ts : List Tri) (t : Tri)
     → GrowsByJoin s P q c kept old ts → k + 2 ≡ kept → k + 1 ≡ less → turn s (P (slice_index c k)) (P (slice_index c (k + 1))) (P q) <ℤ pos 0
     → HasTriangle s (slice_index c k) (slice_index c (k + 1)) q t → GrowsByJoin s P q c less old (ts ++ t ∷ [])
 GrowsByJoin-more a k kept less old ts t j e d seen h =
@@ -96,7 +96,7 @@ GrowsByJoin-more a k kept less old ts t j e d seen h =
     }
 
 -- a place that is not kept is a corner
-pub popped : {s : Side} {P : ℕ → Point} {q : ℕ} {c : List ℕ} {kept : ℕ} {added : List Tri} → IsJoin s P q c kept added
+pub popped : {s : Chain} {P : ℕ → Point} {q : ℕ} {c : List ℕ} {kept : ℕ} {added : List Tri} → IsJoin s P q c kept added
     → (i : ℕ) → kept ≤ i → i < length c → Any (λ t. IsCorner t (slice_index c i)) added
 popped j zero l i_in = let some = j.some in absurd (omega arith)
 popped {s = s} {P = P} {q = q} {c = c} {added = added} j (suc i) l i_in =

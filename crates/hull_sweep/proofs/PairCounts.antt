@@ -4,15 +4,15 @@ use Rattle.std.proofs.lemmas.Bool.{cases_eq}
 use Rattle.exact_predicates.specs.declared.point.Point.{Point}
 use Rattle.exact_predicates.specs.Triangulation.{hit}
 use Rattle.exact_predicates.proofs.Pairs.{hit_none, hit_same}
-use Rattle.hull_sweep.specs.declared.side.Side.{Side}
-use Rattle.hull_sweep.specs.declared.side.Side.TheVariants.{Lower, Upper}
+use Rattle.hull_sweep.specs.declared.chain.Chain.{Chain}
+use Rattle.hull_sweep.specs.declared.chain.Chain.TheVariants.{Lower, Upper}
 use Rattle.hull_sweep.specs.Chain.{IsChain}
 use Rattle.hull_sweep.specs.Join.{along, pair_count}
 use Rattle.hull_sweep.proofs.Chains.{one_place}
 use Rattle.hull_sweep.proofs.Tops.{topped, kept_at, top_at, length-topped}
 
 -- one more place is one more pair
-pub pair_count-more : (s : Side) (f : ℕ → ℕ) (u v k kept less : ℕ) → k + 2 ≡ kept → k + 1 ≡ less
+pub pair_count-more : (s : Chain) (f : ℕ → ℕ) (u v k kept less : ℕ) → k + 2 ≡ kept → k + 1 ≡ less
     → pair_count s f kept u v ≡ pair_count s f less u v + hit u v (along s (f k) (f (k + 1)))
 pair_count-more s f u v k kept less e d =
     let e' : suc (suc k) ≡ kept = omega arith in
@@ -23,14 +23,14 @@ pair_count-more s f u v k kept less e d =
     (subst (λ x. pair_count s f (suc (suc k)) u v ≡ pair_count s f (suc k) u v + hit u v (along s (f k) (f x))) g refl))
 
 -- chains that agree have the same pairs
-pair_count-same : (s : Side) (f g : ℕ → ℕ) (u v k : ℕ) → ((i : ℕ) → i < k → f i ≡ g i) → pair_count s f k u v ≡ pair_count s g k u v
+pair_count-same : (s : Chain) (f g : ℕ → ℕ) (u v k : ℕ) → ((i : ℕ) → i < k → f i ≡ g i) → pair_count s f k u v ≡ pair_count s g k u v
 pair_count-same s f g u v zero h = refl
 pair_count-same s f g u v (suc zero) h = refl
 pair_count-same s f g u v (suc (suc k)) h =
     rw (pair_count-same s f g u v (suc k) (λ i l. h i (omega arith)), h k (omega arith), h (suc k) (omega arith)) refl
 
 -- a new point on top of k places makes a pair with the last of them
-pub pair_count-topped : (s : Side) (c : List ℕ) (k i q u v : ℕ) → k ≤ length c → i + 1 ≡ k
+pub pair_count-topped : (s : Chain) (c : List ℕ) (k i q u v : ℕ) → k ≤ length c → i + 1 ≡ k
     → pair_count s (slice_index (topped c k q)) (length (topped c k q)) u v ≡ pair_count s (slice_index c) k u v + hit u v (along s (slice_index c i) q)
 pair_count-topped s c k i q u v h e =
     let g = slice_index (topped c k q) in
@@ -40,7 +40,7 @@ pair_count-topped s c k i q u v h e =
     more ∙ (ap (λ x. x + hit u v (along s (g i) (g (i + 1)))) (pair_count-same s g (slice_index c) u v k (λ j l. kept_at c k j q h l)) ∙ rw (top, below) refl)
 
 -- a side that is no pair does not occur
-pub pair_count-none : (s : Side) (f : ℕ → ℕ) (u v count : ℕ) → ((i : ℕ) → i + 1 < count → hit u v (along s (f i) (f (i + 1))) ≡ 0) → pair_count s f count u v ≡ 0
+pub pair_count-none : (s : Chain) (f : ℕ → ℕ) (u v count : ℕ) → ((i : ℕ) → i + 1 < count → hit u v (along s (f i) (f (i + 1))) ≡ 0) → pair_count s f count u v ≡ 0
 pair_count-none s f u v zero h = refl
 pair_count-none s f u v (suc zero) h = refl
 pair_count-none s f u v (suc (suc k)) h =
@@ -49,7 +49,7 @@ pair_count-none s f u v (suc (suc k)) h =
     omega (arith, pair_count-none s f u v (suc k) (λ i l. h i (omega arith)), last)
 
 -- a side that is the pair at one place occurs once
-pair_count-one : (s : Side) (f : ℕ → ℕ) (u v count i : ℕ) → i + 1 < count → hit u v (along s (f i) (f (i + 1))) ≡ 1
+pair_count-one : (s : Chain) (f : ℕ → ℕ) (u v count i : ℕ) → i + 1 < count → hit u v (along s (f i) (f (i + 1))) ≡ 1
     → ((j : ℕ) → j + 1 < count → j ≢ i → hit u v (along s (f j) (f (j + 1))) ≡ 0) → pair_count s f count u v ≡ 1
 pair_count-one s f u v zero i l e h = absurd (omega arith)
 pair_count-one s f u v (suc zero) i l e h = absurd (omega arith)

@@ -11,8 +11,8 @@ use Rattle.exact_predicates.specs.Triangulation.{HasCorners}
 use Rattle.exact_predicates.proofs.Between.{IsBetween-from_order, IsBetween-turned}
 use Rattle.exact_predicates.proofs.Elements.{Any-permutation}
 use Rattle.exact_predicates.proofs.Numbers.{IsOrdered}
-use Rattle.hull_sweep.specs.declared.side.Side.{Side}
-use Rattle.hull_sweep.specs.declared.side.Side.TheVariants.{Lower, Upper}
+use Rattle.hull_sweep.specs.declared.chain.Chain.{Chain}
+use Rattle.hull_sweep.specs.declared.chain.Chain.TheVariants.{Lower, Upper}
 use Rattle.hull_sweep.specs.Chain.{turn, IsChain}
 use Rattle.hull_sweep.specs.Join.{HasTriangle}
 use Rattle.hull_sweep.specs.Rule.{JoinsVisiblePair, FollowsRule}
@@ -27,7 +27,7 @@ pub corners_high : (y x q : ℕ) (t : Tri) → HasTriangle Upper y x q t → Has
 corners_high y x q t (a, b, c) = inl (a, b, c)
 
 -- the triangle of q with a visible pair of a chain keeps the rule
-pub joins_visible : (s : Side) {P : ℕ → Point} {q count : ℕ} {f : ℕ → ℕ} → IsOrdered P q → IsChain s P q count f → (k : ℕ) (t : Tri) → k + 1 < count
+pub joins_visible : (s : Chain) {P : ℕ → Point} {q count : ℕ} {f : ℕ → ℕ} → IsOrdered P q → IsChain s P q count f → (k : ℕ) (t : Tri) → k + 1 < count
     → turn s (P (f k)) (P (f (k + 1))) (P q) <ℤ pos 0 → HasTriangle s (f k) (f (k + 1)) q t → JoinsVisiblePair P (q + 1) t
 joins_visible Lower {q = q} {f = f} ordered chain k t k_in seen h =
     record {
@@ -67,7 +67,7 @@ known_later P n t j =
     record { u = j.u; v = j.v; q = j.q; known = omega arith; corners = j.corners; pair = j.pair }
 
 -- Two points with no point outside their pair or between them.
-pub record IsSidePair (s : Side) (P : ℕ → Point) (q u v : ℕ) : Type 0 where
+pub record IsSidePair (s : Chain) (P : ℕ → Point) (q u v : ℕ) : Type 0 where
   pub rising : u < v
   pub known : v < q
   pub inside : (r : ℕ) → r < q → pos 0 ≤ℤ turn s (P u) (P v) (P r)
@@ -80,7 +80,7 @@ pub record IsPlacePair (count : ℕ) (f : ℕ → ℕ) (u v : ℕ) : Type 0 wher
   pub from : f k ≡ u
   pub to : f (k + 1) ≡ v
 
-module _ {s : Side} {P : ℕ → Point} {q count : ℕ} {f : ℕ → ℕ} (ordered : IsOrdered P q) (c : IsChain s P q count f) where
+module _ {s : Chain} {P : ℕ → Point} {q count : ℕ} {f : ℕ → ℕ} (ordered : IsOrdered P q) (c : IsChain s P q count f) where
   -- the highest place whose number is at most u, from place j down
   place_upto : (j u : ℕ) → j < count → (j + 1 < count → u < f (j + 1)) → (k : ℕ) × (k < count) × (f k ≤ u) × (k + 1 < count → u < f (k + 1))
   place_upto zero u j_in above = (0, j_in, omega (arith, c.first), above)

@@ -7,7 +7,7 @@ use Rattle.exact_predicates.specs.declared.tri.Tri.{Tri}
 use Rattle.exact_predicates.specs.Plane.{orient}
 use Rattle.exact_predicates.proofs.Line.{orient-on_line}
 use Rattle.exact_predicates.proofs.Orientation.{orient_turned, orient_swapped}
-use Rattle.hull_sweep.specs.declared.side.Side.TheVariants.{Lower, Upper}
+use Rattle.hull_sweep.specs.declared.chain.Chain.TheVariants.{Lower, Upper}
 use Rattle.hull_sweep.specs.Chain.{turn, IsChain, IsHidden}
 use Rattle.hull_sweep.specs.Swept.{MeetAtEnds, IsSwept}
 use Rattle.hull_sweep.proofs.Chains.{rises, two_places, two_points, last_place, pair_order, before_next, hidden_below}

@@ -12,8 +12,8 @@ use Rattle.exact_predicates.proofs.Counts.{side_count-append}
 use Rattle.exact_predicates.proofs.Elements.{Any-append_left, Any-append_right, Any-weaker}
 use Rattle.exact_predicates.proofs.Orientation.{orient_swapped}
 use Rattle.exact_predicates.proofs.Pairs.{hit_turned}
-use Rattle.hull_sweep.specs.declared.side.Side.{Side}
-use Rattle.hull_sweep.specs.declared.side.Side.TheVariants.{Lower, Upper}
+use Rattle.hull_sweep.specs.declared.chain.Chain.{Chain}
+use Rattle.hull_sweep.specs.declared.chain.Chain.TheVariants.{Lower, Upper}
 use Rattle.hull_sweep.specs.Chain.{turn}
 use Rattle.hull_sweep.specs.Join.{HasTriangle, IsEmptyBelow, pair_count}
 use Rattle.hull_sweep.specs.Rule.{IsVisiblePair, JoinsVisiblePair}
@@ -28,7 +28,7 @@ use Rattle.hull_sweep.proofs.Shapes.{IsStep, shape_step}
 use Rattle.hull_sweep.proofs.Tops.{topped, kept_or_popped, length-topped, IsJoined, kept_hidden, IsChain-topped, IsNewest-topped}
 
 -- q is joined to each pair of a chain that is visible from it
-joined_visible : {s : Side} {P : ℕ → Point} {n q : ℕ} {c : List ℕ} {k : ℕ} {added : List Tri} → IsJoined s P n q c k added → (u v : ℕ) → IsSidePair s P q u v
+joined_visible : {s : Chain} {P : ℕ → Point} {n q : ℕ} {c : List ℕ} {k : ℕ} {added : List Tri} → IsJoined s P n q c k added → (u v : ℕ) → IsSidePair s P q u v
     → turn s (P u) (P v) (P q) <ℤ pos 0 → Any (HasTriangle s u v q) added
 joined_visible {s = s} {P = P} {q = q} {k = k} {added = added} j u v p seen =
     let place = place_of_side (earlier j.ahead) j.ahead.chain j.newest u v p in

@@ -6,7 +6,7 @@ use Rattle.std.proofs.lemmas.List.{length_push, length-take-le, get_or_append_le
 use Rattle.std.proofs.lemmas.List.Elements.{Contains-get_or}
 use Rattle.exact_predicates.specs.declared.point.Point.{Point}
 use Rattle.exact_predicates.specs.declared.tri.Tri.{Tri}
-use Rattle.hull_sweep.specs.declared.side.Side.{Side}
+use Rattle.hull_sweep.specs.declared.chain.Chain.{Chain}
 use Rattle.hull_sweep.specs.Chain.{turn, IsChain, IsHidden, IsNewest}
 use Rattle.hull_sweep.specs.Join.{IsJoin}
 use Rattle.hull_sweep.proofs.Chains.{IsAhead, pair_order, before_next, hidden_below}
@@ -37,13 +37,13 @@ kept_or_popped c k q x h (i, i_in, at_i) =
     (cases_lt i k)
 
 -- q is joined to the chain c, of which k places stay, by these triangles
-pub record IsJoined (s : Side) (P : ℕ → Point) (n q : ℕ) (c : List ℕ) (k : ℕ) (added : List Tri) : Type 0 where
+pub record IsJoined (s : Chain) (P : ℕ → Point) (n q : ℕ) (c : List ℕ) (k : ℕ) (added : List Tri) : Type 0 where
   pub ahead : IsAhead s P n q (length c) (slice_index c)
   pub newest : IsNewest q c
   pub join : IsJoin s P q c k added
   pub hidden : (i : ℕ) → i + 2 ≡ k → IsHidden s P q (slice_index c) i
 
-module _ {s : Side} {P : ℕ → Point} {n q : ℕ} {c : List ℕ} {k : ℕ} {added : List Tri} (j : IsJoined s P n q c k added) where
+module _ {s : Chain} {P : ℕ → Point} {n q : ℕ} {c : List ℕ} {k : ℕ} {added : List Tri} (j : IsJoined s P n q c k added) where
   -- the new pair has those points strictly inside that come after its lower end
   pub after_top : (i r : ℕ) → i + 1 ≡ k → slice_index c i < r → r < q → pos 0 <ℤ turn s (P (slice_index c i)) (P q) (P r)
   after_top i r e above r_in =

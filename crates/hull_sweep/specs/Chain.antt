@@ -4,23 +4,23 @@
 use Rattle.std.specs.Prelude.{◌≡◌, ℕ, ◌+◌, ◌<◌, List, length, slice_index, ℤ, pos, ◌≤ℤ◌, ◌<ℤ◌}
 use Rattle.exact_predicates.specs.declared.point.Point.{Point}
 use Rattle.exact_predicates.specs.Plane.{orient}
-use Rattle.hull_sweep.specs.declared.side.Side.{Side}
-use Rattle.hull_sweep.specs.declared.side.Side.TheVariants.{Lower, Upper}
+use Rattle.hull_sweep.specs.declared.chain.Chain.{Chain}
+use Rattle.hull_sweep.specs.declared.chain.Chain.TheVariants.{Lower, Upper}
 
 -- Where r lies from the pair with the lower end p and the higher end q: positive is inside the hull, 0 on the line of the
 -- pair, and negative outside, from where the pair is visible.
-abbrev pub turn : Side → Point → Point → Point → ℤ
+abbrev pub turn : Chain → Point → Point → Point → ℤ
 turn Lower p q r = orient p q r
 turn Upper p q r = orient q p r
 
 -- the pair at place k is hidden from the point q: it is not visible from there
-abbrev pub IsHidden : Side → (ℕ → Point) → ℕ → (ℕ → ℕ) → ℕ → Type 0
+abbrev pub IsHidden : Chain → (ℕ → Point) → ℕ → (ℕ → ℕ) → ℕ → Type 0
 IsHidden s P q f k = pos 0 ≤ℤ turn s (P (f k)) (P (f (k + 1))) (P q)
 
 -- One chain of the hull of the points below q, of this many places. The numbers rise from point 0. No point lies outside a
 -- pair, and the points whose numbers lie between those of its two ends lie strictly inside: each point on that side of the
 -- hull has a place.
-pub record IsChain (s : Side) (P : ℕ → Point) (q count : ℕ) (f : ℕ → ℕ) : Type 0 where
+pub record IsChain (s : Chain) (P : ℕ → Point) (q count : ℕ) (f : ℕ → ℕ) : Type 0 where
   pub some : 0 < count
   pub first : f 0 ≡ 0
   pub rising : (k : ℕ) → k + 1 < count → f k < f (k + 1)

@@ -4,13 +4,13 @@ use Rattle.exact_predicates.specs.declared.point.Point.{Point}
 use Rattle.exact_predicates.specs.declared.tri.Tri.{Tri}
 use Rattle.exact_predicates.specs.Plane.{orient, IsInClosedTriangle}
 use Rattle.exact_predicates.specs.Triangulation.{IsCorner, hit, side_count}
-use Rattle.hull_sweep.specs.declared.side.Side.{Side}
-use Rattle.hull_sweep.specs.declared.side.Side.TheVariants.{Lower, Upper}
+use Rattle.hull_sweep.specs.declared.chain.Chain.{Chain}
+use Rattle.hull_sweep.specs.declared.chain.Chain.TheVariants.{Lower, Upper}
 use Rattle.hull_sweep.specs.Chain.{turn}
 use Rattle.hull_sweep.specs.Rule.{JoinsVisiblePair}
 
 -- t is the triangle of q with the pair from y up to x, turned counter-clockwise where the pair is visible from q
-abbrev pub HasTriangle : Side → ℕ → ℕ → ℕ → Tri → Type 0
+abbrev pub HasTriangle : Chain → ℕ → ℕ → ℕ → Tri → Type 0
 HasTriangle Lower y x q t = (t.a ≡ y) × (t.b ≡ q) × (t.c ≡ x)
 HasTriangle Upper y x q t = (t.a ≡ y) × (t.b ≡ x) × (t.c ≡ q)
 
@@ -23,12 +23,12 @@ pub record IsEmptyBelow (P : ℕ → Point) (q : ℕ) (t : Tri) : Type 0 where
   pub bare : (r : ℕ) → r < q → IsInClosedTriangle (P t.a) (P t.b) (P t.c) (P r) → IsCorner t r
 
 -- the pair from y up to x as a directed side of the hull, which has the hull on its left
-abbrev pub along : Side → ℕ → ℕ → ℕ × ℕ
+abbrev pub along : Chain → ℕ → ℕ → ℕ × ℕ
 along Lower y x = (y, x)
 along Upper y x = (x, y)
 
 -- how often u to v is a directed side among the first places of a chain
-abbrev pub pair_count : Side → (ℕ → ℕ) → ℕ → ℕ → ℕ → ℕ
+abbrev pub pair_count : Chain → (ℕ → ℕ) → ℕ → ℕ → ℕ → ℕ
 pair_count s f zero u v = 0
 pair_count s f (suc zero) u v = 0
 pair_count s f (suc (suc k)) u v = pair_count s f (suc k) u v + hit u v (along s (f k) (f (suc k)))
@@ -36,7 +36,7 @@ pair_count s f (suc (suc k)) u v = pair_count s f (suc k) u v + hit u v (along s
 -- What joining q to the chain c adds, where so many places of c are kept: an empty triangle for each pair above the last kept
 -- place, by the rule, the lowest of which was visible. The sides of these triangles balance: what u to v gains on v to u is what
 -- it gains from the old chain to the outline that runs over the kept places to q, and from there to the newest point.
-pub record IsJoin (s : Side) (P : ℕ → Point) (q : ℕ) (c : List ℕ) (kept : ℕ) (added : List Tri) : Type 0 where
+pub record IsJoin (s : Chain) (P : ℕ → Point) (q : ℕ) (c : List ℕ) (kept : ℕ) (added : List Tri) : Type 0 where
   pub some : 0 < kept
   pub within : kept ≤ length c
   pub seen : (k : ℕ) → k + 1 ≡ kept → kept < length c → turn s (P (slice_index c k)) (P (slice_index c (k + 1))) (P q) <ℤ pos 0
@@ -49,7 +49,7 @@ pub record IsJoin (s : Side) (P : ℕ → Point) (q : ℕ) (c : List ℕ) (kept 
       ≡ side_count added v u + pair_count s (slice_index c) kept u v + pair_count s (slice_index c) (length c) v u + hit u v (along s (slice_index c k) q) + hit v u (along s (slice_index c j) q)
 
 -- the triangles grew by those of q with the chain c, of which so many places are kept
-pub record GrowsByJoin (s : Side) (P : ℕ → Point) (q : ℕ) (c : List ℕ) (kept : ℕ) (old new : List Tri) : Type 0 where
+pub record GrowsByJoin (s : Chain) (P : ℕ → Point) (q : ℕ) (c : List ℕ) (kept : ℕ) (old new : List Tri) : Type 0 where
   pub added : List Tri
   pub grows : new ≡ old ++ added
   pub join : IsJoin s P q c kept added

@@ -3,7 +3,7 @@ use Rattle.std.specs.Prelude.{◌≡◌, ◌⊎◌, ℕ, ◌+◌, ◌*◌, ◌<�
 use Rattle.exact_predicates.specs.declared.point.Point.{Point}
 use Rattle.exact_predicates.specs.declared.tri.Tri.{Tri}
 use Rattle.exact_predicates.specs.Triangulation.{IsCorner, side_count}
-use Rattle.hull_sweep.specs.declared.side.Side.TheVariants.{Lower, Upper}
+use Rattle.hull_sweep.specs.declared.chain.Chain.TheVariants.{Lower, Upper}
 use Rattle.hull_sweep.specs.Chain.{IsChain, IsNewest}
 use Rattle.hull_sweep.specs.Join.{IsEmptyBelow, pair_count}
 use Rattle.hull_sweep.specs.Rule.{FollowsRule}

@@ -3,8 +3,8 @@ ghost use Rattle.std.specs.Prelude.{◌+◌, ◌<◌, length, OnOk, IfOk};
 ghost use Rattle.exact_predicates.specs.PointSet.{IsPointSet, point_at};
 ghost use Rattle.hull_sweep.specs.Swept.{IsSwept};
 
+use crate::chain::Chain;
 use crate::join::join;
-use crate::side::Side;
 use exact_predicates::{Points, Tri};
 use mwt_base::NoMemory;
 use std::alloc::Global;
@@ -47,8 +47,8 @@ impl Swept {
         ensures { OnOk result (IsSwept (point_at points.now.points) (q + 1)
             self.new.lower.items self.new.upper.items self.new.tris.items) }
     {
-        let low = join(points, Side::Lower, q, &self.lower, &mut self.tris)?;
-        let high = join(points, Side::Upper, q, &self.upper, &mut self.tris)?;
+        let low = join(points, Chain::Lower, q, &self.lower, &mut self.tris)?;
+        let high = join(points, Chain::Upper, q, &self.upper, &mut self.tris)?;
         self.lower.truncate(low);
         self.lower.push(q)?;
         self.upper.truncate(high);

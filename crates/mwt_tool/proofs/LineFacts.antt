@@ -17,7 +17,7 @@ use Rattle.lmt_network.specs.Prices.{IsLiveTriangle, IsTight, Priced, is_on_hull
 use Rattle.lmt_network.proofs.Entries.{is_on_hull_decides}
 use Rattle.lmt_network.proofs.Naming.{edge_at-once}
 use Rattle.lmt_network.proofs.Picked.{All-from_members, flag_from_live, flag_in, picked_from, picked_in}
-use Rattle.price_ascent.specs.declared.entry.Entry.{Entry}
+use Rattle.price_ascent.specs.declared.entry.PriceEntry.{PriceEntry}
 use Rattle.price_ascent.specs.Belonging.{AreEntriesOf, IsWithinRanges}
 use Rattle.price_ascent.specs.Entries.{anchored_edges, entry, live_of, no_entry, prices_of}
 use Rattle.price_ascent.proofs.Kept.{entry_at-kept, get_or-mapped, kept_price, number-live, priced-kept}
@@ -28,14 +28,14 @@ use Rattle.cert_text.specs.Within.{ArePrices as AreRanges, IsLiveRow}
 use Rattle.mwt_tool.specs.PriceLines.{kind_of, line_at, line_of, price_lines}
 
 -- what holds of the line of each live edge holds of all lines
-pub all_lines : (n : NetworkParts) (es : List Entry) (P : PriceLine → Type 0) → length es ≡ length n.edges
+pub all_lines : (n : NetworkParts) (es : List PriceEntry) (P : PriceLine → Type 0) → length es ≡ length n.edges
     → ((e : ℕ) → e < length n.edges → (entry es e).live ≡ true → P (line_at n es e)) → All P (price_lines n es)
 all_lines n es P one_each each =
     All-map P (line_at n es) (live_numbers (live_of es))
     (All-from_members (λ e. P (line_at n es e)) (live_numbers (live_of es))
     (λ e has.
     let l = flag_in (live_of es) e (flag_from_live (live_of es) e has) in
-    each e (omega (arith, one_each, length-map es (λ (p : Entry). p.live), l)) (number-live es e has)))
+    each e (omega (arith, one_each, length-map es (λ (p : PriceEntry). p.live), l)) (number-live es e has)))
 
 -- the two kinds that say something of an edge
 kind-hull : (b a : Bool) → (kind_of b a ≡ Hull) ↔ (b ≡ true)
@@ -56,7 +56,7 @@ hull_decides : (n : NetworkParts) (e : ℕ) → Decides (on_hull n e) (IsHullEdg
 hull_decides n e = is_on_hull_decides n.hull (edge_at n e).a (edge_at n e).b
 
 -- an edge of the hull has no anchors of its own for its sides
-hull-not_anchored : (n : NetworkParts) (es : List Entry) (e : ℕ) → AreEntriesOf n es → e < length n.edges → on_hull n e ≡ true → (entry es e).anchored ≡ false
+hull-not_anchored : (n : NetworkParts) (es : List PriceEntry) (e : ℕ) → AreEntriesOf n es → e < length n.edges → on_hull n e ≡ true → (entry es e).anchored ≡ false
 hull-not_anchored n es e b e_in on = at (entry es e).anchored refl
   where
     at : (a : Bool) → (entry es e).anchored ≡ a → (entry es e).anchored ≡ false
@@ -64,21 +64,21 @@ hull-not_anchored n es e b e_in on = at (entry es e).anchored refl
     at false is = is
 
 -- the anchored edges by number
-anchored-number : (n : NetworkParts) (es : List Entry) (e : ℕ) → AreEntriesOf n es → e < length n.edges
+anchored-number : (n : NetworkParts) (es : List PriceEntry) (e : ℕ) → AreEntriesOf n es → e < length n.edges
     → Contains (anchored_edges n es) (edge_at n e) ↔ ((entry es e).anchored ≡ true)
 anchored-number n es e b e_in = (forth, back)
   where
     forth : Contains (anchored_edges n es) (edge_at n e) → (entry es e).anchored ≡ true
     forth has =
-        let r = picked_from (map (λ (p : Entry). p.anchored) es) n.edges (edge_at n e) has in
+        let r = picked_from (map (λ (p : PriceEntry). p.anchored) es) n.edges (edge_at n e) has in
         let same : r.0 ≡ e = edge_at-once n r.0 e b.network.ascending r.1 e_in (get_or_default n.edges r.0 _ (edge_at n e) r.1 ∙ r.3) in
-        subst (λ k. (entry es k).anchored ≡ true) same (sym (get_or-mapped (λ (p : Entry). p.anchored) es r.0 no_entry) ∙ r.2)
+        subst (λ k. (entry es k).anchored ≡ true) same (sym (get_or-mapped (λ (p : PriceEntry). p.anchored) es r.0 no_entry) ∙ r.2)
 
     back : (entry es e).anchored ≡ true → Contains (anchored_edges n es) (edge_at n e)
-    back is = picked_in (map (λ (p : Entry). p.anchored) es) n.edges e _ e_in (get_or-mapped (λ (p : Entry). p.anchored) es e no_entry ∙ is)
+    back is = picked_in (map (λ (p : PriceEntry). p.anchored) es) n.edges e _ e_in (get_or-mapped (λ (p : PriceEntry). p.anchored) es e no_entry ∙ is)
 
 -- a line is marked as of the hull exactly where its edge is
-pub hull_marks : (n : NetworkParts) (es : List Entry) → AreEntriesOf n es → All (λ l. (l.kind ≡ Hull) ↔ IsHullEdge n.hull l.edge) (price_lines n es)
+pub hull_marks : (n : NetworkParts) (es : List PriceEntry) → AreEntriesOf n es → All (λ l. (l.kind ≡ Hull) ↔ IsHullEdge n.hull l.edge) (price_lines n es)
 hull_marks n es b =
     all_lines n es (λ l. (l.kind ≡ Hull) ↔ IsHullEdge n.hull l.edge) b.one_each
     (λ e e_in live.
@@ -87,7 +87,7 @@ hull_marks n es b =
     (λ h. on.0 (kind.0 h), λ h. kind.1 (on.1 h)))
 
 -- and as of the skeleton exactly where its edge is one of the skeleton and not of the hull
-pub skeleton_marks : (n : NetworkParts) (es : List Entry) (skeleton : List Edge) → AreEntriesOf n es
+pub skeleton_marks : (n : NetworkParts) (es : List PriceEntry) (skeleton : List Edge) → AreEntriesOf n es
     → ((e : Edge) → Contains (anchored_edges n es) e ↔ (Contains skeleton e × (¬ IsHullEdge n.hull e)))
     → All (λ l. (l.kind ≡ Skeleton) ↔ (Contains skeleton l.edge × (¬ IsHullEdge n.hull l.edge))) (price_lines n es)
 skeleton_marks n es skeleton b anchored =
@@ -99,11 +99,11 @@ skeleton_marks n es skeleton b anchored =
     (λ h. is.0 (number.1 (kind.0 h)), λ h. kind.1 (number.0 (is.1 h))))
 
 -- some live triangle has the edge from a to b as a side
-abbrev pub IsOnLiveTriangle : NetworkParts → List Entry → Edge → Type 0
+abbrev pub IsOnLiveTriangle : NetworkParts → List PriceEntry → Edge → Type 0
 IsOnLiveTriangle n es e = (t : Tri) × (HasSide t e.a e.b ⊎ HasSide t e.b e.a) × IsLiveTriangle n.points (prices_of n es) t
 
 -- the line of an edge of the hull without a live triangle has the anchor 0
-pub bare_lines : (n : NetworkParts) (es : List Entry) → AreEntriesOf n es → IsTight n.points n.hull (anchored_edges n es) (prices_of n es)
+pub bare_lines : (n : NetworkParts) (es : List PriceEntry) → AreEntriesOf n es → IsTight n.points n.hull (anchored_edges n es) (prices_of n es)
     → All (λ l. l.kind ≡ Hull → IsOnLiveTriangle n es l.edge ⊎ (l.value ≡ pos 0)) (price_lines n es)
 bare_lines n es b tight =
     all_lines n es (λ l. l.kind ≡ Hull → IsOnLiveTriangle n es l.edge ⊎ (l.value ≡ pos 0)) b.one_each
@@ -150,7 +150,7 @@ amounts hull false false p decides w none apart =
     let is = w.price (λ h. false≢true (decides.1 h)) in
     (record { least = omega (arith, ints, is.0); most = omega (arith, ints, is.1) }, zero.0, zero.1)
 
-pub line_rows : (n : NetworkParts) (es : List Entry) → AreEntriesOf n es → All (IsWithinRanges n.hull) (prices_of n es)
+pub line_rows : (n : NetworkParts) (es : List PriceEntry) → AreEntriesOf n es → All (IsWithinRanges n.hull) (prices_of n es)
     → All (IsLiveRow 2 (length n.points)) (price_lines n es)
 line_rows n es b within =
     all_lines n es (IsLiveRow 2 (length n.points)) b.one_each

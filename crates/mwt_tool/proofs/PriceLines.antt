@@ -5,7 +5,7 @@ use Rattle.std.proofs.lemmas.List.{map-append, append-nil, take_all}
 use Rattle.std.proofs.lemmas.List.FromFn.{get_or-range_with_len, length-range_with_len}
 use Rattle.cert_text.specs.declared.report.PriceLine.{PriceLine}
 use Rattle.lmt_network.specs.Network.{NetworkParts}
-use Rattle.price_ascent.specs.declared.entry.Entry.{Entry}
+use Rattle.price_ascent.specs.declared.entry.PriceEntry.{PriceEntry}
 use Rattle.price_ascent.specs.Entries.{live_of}
 use Rattle.mwt_tool.specs.PriceLines.{line_at, price_lines}
 
@@ -36,12 +36,12 @@ live_before-next flags k l =
     next ∙ ap (λ (n : ℕ). live_before flags k ++ picked (get_or flags k false) n) is
 
 -- the lines of the live edges among the first e
-pub record AreLinesUpto (n : NetworkParts) (es : List Entry) (lines : List PriceLine) (e : ℕ) : Type 0 where
+pub record AreLinesUpto (n : NetworkParts) (es : List PriceEntry) (lines : List PriceLine) (e : ℕ) : Type 0 where
   pub few : length lines ≤ e
   pub are : lines ≡ map (line_at n es) (live_before (live_of es) e)
 
 -- with the line of the next edge, which is live
-pub lines_next_live : (n : NetworkParts) (es : List Entry) (lines : List PriceLine) (line : PriceLine) (e : ℕ)
+pub lines_next_live : (n : NetworkParts) (es : List PriceEntry) (lines : List PriceLine) (line : PriceLine) (e : ℕ)
     → AreLinesUpto n es lines e → e < length (live_of es) → get_or (live_of es) e false ≡ true → line ≡ line_at n es e
     → AreLinesUpto n es (lines ++ line ∷ []) (e + 1)
 lines_next_live n es lines line e h l live is = record {
@@ -54,7 +54,7 @@ lines_next_live n es lines line e h l live is = record {
 }
 
 -- where the next edge is not live
-pub lines_next_dead : (n : NetworkParts) (es : List Entry) (lines : List PriceLine) (e : ℕ)
+pub lines_next_dead : (n : NetworkParts) (es : List PriceEntry) (lines : List PriceLine) (e : ℕ)
     → AreLinesUpto n es lines e → e < length (live_of es) → get_or (live_of es) e false ≡ false → AreLinesUpto n es lines (e + 1)
 lines_next_dead n es lines e h l dead = record {
   few = omega (arith, h.few);
@@ -64,7 +64,7 @@ lines_next_dead n es lines e h l dead = record {
 }
 
 -- at the end they are the lines of all live edges
-pub lines_all : (n : NetworkParts) (es : List Entry) (lines : List PriceLine) (e : ℕ) → AreLinesUpto n es lines e → length (live_of es) ≤ e → lines ≡ price_lines n es
+pub lines_all : (n : NetworkParts) (es : List PriceEntry) (lines : List PriceLine) (e : ℕ) → AreLinesUpto n es lines e → length (live_of es) ≤ e → lines ≡ price_lines n es
 lines_all n es lines e h past =
     let flags = live_of es in
     let numbers = range_with_len 0 (length flags) in

@@ -20,7 +20,7 @@ use Rattle.lmt_network.specs.Skeleton.{AreSkeleton, IsSkeletonEdge}
 use Rattle.lmt_network.proofs.Entries.{is_on_hull_decides}
 use Rattle.lmt_network.proofs.Filters.{filter-from, filter-to}
 use Rattle.lmt_network.proofs.Picked.{AllPairs-picked, All-from_members, picked_from}
-use Rattle.price_ascent.specs.declared.entry.Entry.{Entry}
+use Rattle.price_ascent.specs.declared.entry.PriceEntry.{PriceEntry}
 use Rattle.price_ascent.specs.Entries.{anchored_edges, live_of, prices_of, table_of}
 use Rattle.price_ascent.proofs.LiveSides.{edges-kept}
 use Rattle.cert_text.specs.declared.report.LineKind.TheVariants.{Hull, Skeleton}
@@ -54,7 +54,7 @@ pub record SayRight (ps : List Point) (hull : List ℕ) (count : ℕ) (lines : L
   pub skeleton_rows : All (IsEdgeRow (length ps)) skeleton
   pub skeleton_few : length skeleton ≤ count
 
-module _ {n : NetworkParts} {flags : List Bool} {entries : List Entry} {part : Part} (a : ArePriced n flags entries part) where
+module _ {n : NetworkParts} {flags : List Bool} {entries : List PriceEntry} {part : Part} (a : ArePriced n flags entries part) where
   -- the edges of the lines are the live ones, and their prices those of the table
   pub line_edges : map (λ l. l.edge) part.live ≡ live_edges n flags
   line_edges =
@@ -88,7 +88,7 @@ module _ {n : NetworkParts} {flags : List Bool} {entries : List Entry} {part : P
   anchored_list =
       ascending-only EdgePrecedes EdgePrecedes-not (filter (is_off_hull n.hull) part.skeleton) (anchored_edges n entries)
       (AllPairs-filter EdgePrecedes (is_off_hull n.hull) part.skeleton a.prices.skeleton_is.ascending)
-      (AllPairs-picked EdgePrecedes (map (λ (p : Entry). p.anchored) entries) n.edges a.prices.kept.network.ascending)
+      (AllPairs-picked EdgePrecedes (map (λ (p : PriceEntry). p.anchored) entries) n.edges a.prices.kept.network.ascending)
       (λ e has. let r = filter-from (is_off_hull n.hull) part.skeleton e has in (a.prices.anchored e).1 (r.0, (off_hull e).0 r.1))
       (λ e has. let r = (a.prices.anchored e).0 has in filter-to (is_off_hull n.hull) part.skeleton e r.0 ((off_hull e).1 r.1))
 

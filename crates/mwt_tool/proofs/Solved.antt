@@ -22,7 +22,7 @@ use Rattle.lmt_network.specs.Network.{NetworkParts}
 use Rattle.lmt_network.specs.PriceTables.{table_prices}
 use Rattle.lmt_network.specs.Prices.{IsTight, Priced, bound}
 use Rattle.skeleton_faces.specs.Faces.{AreFaces}
-use Rattle.price_ascent.specs.declared.entry.Entry.{Entry}
+use Rattle.price_ascent.specs.declared.entry.PriceEntry.{PriceEntry}
 use Rattle.price_ascent.specs.Ascent.{IsAscent}
 use Rattle.price_ascent.specs.Entries.{anchored_edges, prices_of as prices_in, table_of}
 use Rattle.face_optimum.specs.Decomposition.{Decomposes, bounded_faces}
@@ -56,12 +56,12 @@ abbrev pub part_of : Report → Part
 part_of r = record { live = r.live; skeleton = r.skeleton; bound = r.bound }
 
 -- the triangulation of a report, with its method and these prices
-abbrev pub solution_of : Report → List Entry → Solution
+abbrev pub solution_of : Report → List PriceEntry → Solution
 solution_of r entries = record { method = r.method; tris = r.tris; prices = entries }
 
 -- What the steps of `solve` say of its report r of the points ps: n is the network, flags tell which of its edges are live,
 -- and their prices are in these entries.
-pub record IsMade (ps : List Point) (n : NetworkParts) (flags : List Bool) (entries : List Entry) (first : List Tri) (sweeps : ℕ) (r : Report) : Type 0 where
+pub record IsMade (ps : List Point) (n : NetworkParts) (flags : List Bool) (entries : List PriceEntry) (first : List Tri) (sweeps : ℕ) (r : Report) : Type 0 where
   pub version : r.version ≡ 2
   pub unit : r.unit ≤ most_unit
   pub merged : r.merged < 2 ^ 32
@@ -89,7 +89,7 @@ pub record IsMade (ps : List Point) (n : NetworkParts) (flags : List Bool) (entr
 point_rows : (ps : List Point) → All (λ p. p.id < 2 ^ 32) ps → All IsInRange ps → All IsPointRow ps
 point_rows ps ids places = λ k d k_in. record { id = ids k d k_in; place = places k d k_in }
 
-module _ {n : NetworkParts} {flags : List Bool} {entries : List Entry} {first : List Tri} {sweeps : ℕ} {r : Report} (m : IsMade r.points n flags entries first sweeps r) where
+module _ {n : NetworkParts} {flags : List Bool} {entries : List PriceEntry} {first : List Tri} {sweeps : ℕ} {r : Report} (m : IsMade r.points n flags entries first sweeps r) where
   elimination : IsElimination r.points r.hull r.diamond n flags
   elimination = IsElimination-settled r.points r.hull r.diamond n flags m.network m.one_each m.leaves
 
@@ -231,7 +231,7 @@ module _ {n : NetworkParts} {flags : List Bool} {entries : List Entry} {first : 
   }
 
 -- the report of a file
-pub report_of_steps : (file : File) (settings : Settings) (n : NetworkParts) (flags : List Bool) (entries : List Entry) (first : List Tri) (r : Report)
+pub report_of_steps : (file : File) (settings : Settings) (n : NetworkParts) (flags : List Bool) (entries : List PriceEntry) (first : List Tri) (r : Report)
     → IsMade file.points.points n flags entries first settings.sweeps r → r.diamond ≡ settings.diamond → r.unit ≡ file.unit → r.merged ≡ file.merged
     → IsReportOf file settings r
 report_of_steps file settings n flags entries first r m diamond unit merged =

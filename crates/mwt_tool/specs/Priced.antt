@@ -6,7 +6,7 @@ use Rattle.lmt_network.specs.Live.{IsHullEdge}
 use Rattle.lmt_network.specs.Network.{NetworkParts}
 use Rattle.lmt_network.specs.Prices.{IsFeasible, IsTight, bound}
 use Rattle.lmt_network.specs.Skeleton.{AreSkeleton}
-use Rattle.price_ascent.specs.declared.entry.Entry.{Entry}
+use Rattle.price_ascent.specs.declared.entry.PriceEntry.{PriceEntry}
 use Rattle.price_ascent.specs.Belonging.{AreEntriesOf, IsWithinRanges}
 use Rattle.price_ascent.specs.Entries.{anchored_edges, live_of, prices_of}
 use Rattle.mwt_tool.specs.declared.priced.Priced.{Priced}
@@ -14,7 +14,7 @@ use Rattle.mwt_tool.specs.PriceLines.{price_lines}
 
 -- Prices of the live edges that a report may print: they are within its ranges, feasible and tight, and the edges of the
 -- skeleton have anchors on both sides.
-pub record HavePrices (n : NetworkParts) (flags : List Bool) (skeleton : List Edge) (entries : List Entry) : Type 0 where
+pub record HavePrices (n : NetworkParts) (flags : List Bool) (skeleton : List Edge) (entries : List PriceEntry) : Type 0 where
   pub skeleton_is : AreSkeleton n.points (live_edges n flags) skeleton
   pub kept : AreEntriesOf n entries
   pub live : live_of entries ≡ flags
@@ -24,7 +24,7 @@ pub record HavePrices (n : NetworkParts) (flags : List Bool) (skeleton : List Ed
   pub tight : IsTight n.points n.hull (anchored_edges n entries) (prices_of n entries)
 
 -- The lines of these prices, the skeleton, and the bound.
-pub record ArePriced (n : NetworkParts) (flags : List Bool) (entries : List Entry) (part : Priced) : Type 0 where
+pub record ArePriced (n : NetworkParts) (flags : List Bool) (entries : List PriceEntry) (part : Priced) : Type 0 where
   pub prices : HavePrices n flags part.skeleton entries
   pub lines : part.live ≡ price_lines n entries
   pub bound_is : part.bound ≡ bound n.hull (prices_of n entries)

@@ -10,7 +10,7 @@ use Rattle.lmt_network.specs.PriceTables.{entry_at}
 use Rattle.lmt_network.specs.Prices.{anchors_of, bound, int_sum_by}
 use Rattle.lmt_network.specs.Flags.{live_numbers}
 use Rattle.lmt_network.proofs.IntSums.{int_sum_by-cons, int_sum_by-map}
-use Rattle.price_ascent.specs.declared.entry.Entry.{Entry}
+use Rattle.price_ascent.specs.declared.entry.PriceEntry.{PriceEntry}
 use Rattle.price_ascent.specs.Belonging.{AreEntriesOf}
 use Rattle.price_ascent.specs.Entries.{entry, live_of, prices_of, table_of}
 use Rattle.price_ascent.specs.Sums.{anchors_from, live_from}
@@ -18,14 +18,14 @@ use Rattle.price_ascent.proofs.Kept.{entry_at-kept, live_at}
 use Rattle.price_ascent.proofs.Shares.{hull_number, on_hull}
 
 -- the anchors of an edge, by where it lies
-pub anchors_on : (n : NetworkParts) (es : List Entry) (e : ℕ) → on_hull n e ≡ true → anchors_of n.hull (entry_at n (table_of es) e) ≡ (entry es e).value
+pub anchors_on : (n : NetworkParts) (es : List PriceEntry) (e : ℕ) → on_hull n e ≡ true → anchors_of n.hull (entry_at n (table_of es) e) ≡ (entry es e).value
 anchors_on n es e on = ap (anchors_of n.hull) (entry_at-kept n es e) ∙ cond-true (on_hull n e) _ _ on
 
-pub anchors_off : (n : NetworkParts) (es : List Entry) (e : ℕ) → on_hull n e ≡ false → anchors_of n.hull (entry_at n (table_of es) e) ≡ (entry es e).left +ℤ (entry es e).right
+pub anchors_off : (n : NetworkParts) (es : List PriceEntry) (e : ℕ) → on_hull n e ≡ false → anchors_of n.hull (entry_at n (table_of es) e) ≡ (entry es e).left +ℤ (entry es e).right
 anchors_off n es e off = ap (anchors_of n.hull) (entry_at-kept n es e) ∙ cond-false (on_hull n e) _ _ off
 
 -- a killed edge has none
-dead_anchors : (n : NetworkParts) (es : List Entry) (e : ℕ) → AreEntriesOf n es → e < length n.edges → (entry es e).live ≡ false → anchors_of n.hull (entry_at n (table_of es) e) ≡ pos 0
+dead_anchors : (n : NetworkParts) (es : List PriceEntry) (e : ℕ) → AreEntriesOf n es → e < length n.edges → (entry es e).live ≡ false → anchors_of n.hull (entry_at n (table_of es) e) ≡ pos 0
 dead_anchors n es e b e_in dead =
     at (on_hull n e) refl (entry es e).anchored refl
   where
@@ -40,11 +40,11 @@ dead_anchors n es e b e_in dead =
         omega (arith, ints, left, right, sum)
 
 -- the live numbers from an edge on
-from_at : (es : List Entry) (e : ℕ) (b : Bool) → e < length es → (entry es e).live ≡ b
+from_at : (es : List PriceEntry) (e : ℕ) (b : Bool) → e < length es → (entry es e).live ≡ b
     → live_from es e ≡ items_where_true (b ∷ drop (e + 1) (live_of es)) (e ∷ drop (e + 1) (range_with_len 0 (length (live_of es))))
 from_at es e b e_in is =
     let flags = live_of es in
-    let many : length flags ≡ length es = length-map es (λ (p : Entry). p.live) in
+    let many : length flags ≡ length es = length-map es (λ (p : PriceEntry). p.live) in
     let flag : drop e flags ≡ b ∷ drop (e + 1) flags = drop_more flags e false (omega arith) ∙ ap (λ x. x ∷ drop (e + 1) flags) (live_at es e ∙ is) in
     let numbers = range_with_len 0 (length flags) in
     let number : drop e numbers ≡ e ∷ drop (e + 1) numbers
@@ -53,7 +53,7 @@ from_at es e b e_in is =
     ap (λ bs. items_where_true bs (drop e numbers)) flag ∙ ap (λ xs. items_where_true (b ∷ drop (e + 1) flags) xs) number
 
 -- one edge less is left
-pub anchors_next : (n : NetworkParts) (es : List Entry) (e : ℕ) → AreEntriesOf n es → e < length n.edges
+pub anchors_next : (n : NetworkParts) (es : List PriceEntry) (e : ℕ) → AreEntriesOf n es → e < length n.edges
     → anchors_from n es e ≡ anchors_of n.hull (entry_at n (table_of es) e) +ℤ anchors_from n es (e + 1)
 anchors_next n es e b e_in = at (entry es e).live refl
   where
@@ -69,12 +69,12 @@ anchors_next n es e b e_in = at (entry es e).live refl
         omega (arith, ints, zero, rest)
 
 -- all edges are left at first, and none at the end
-pub anchors_all : (n : NetworkParts) (es : List Entry) → pos 0 +ℤ anchors_from n es 0 ≡ bound n.hull (prices_of n es)
+pub anchors_all : (n : NetworkParts) (es : List PriceEntry) → pos 0 +ℤ anchors_from n es 0 ≡ bound n.hull (prices_of n es)
 anchors_all n es =
     let is = int_sum_by-map (anchors_of n.hull) (entry_at n (table_of es)) (live_numbers (live_of es)) in
     omega (arith, ints, is)
 
-pub anchors_none : (n : NetworkParts) (es : List Entry) (e : ℕ) → AreEntriesOf n es → length n.edges ≤ e → anchors_from n es e ≡ pos 0
+pub anchors_none : (n : NetworkParts) (es : List PriceEntry) (e : ℕ) → AreEntriesOf n es → length n.edges ≤ e → anchors_from n es e ≡ pos 0
 anchors_none n es e b past =
-    let many : length (live_of es) ≤ e = let l = length-map es (λ (p : Entry). p.live) in let one = b.one_each in omega arith in
+    let many : length (live_of es) ≤ e = let l = length-map es (λ (p : PriceEntry). p.live) in let one = b.one_each in omega arith in
     ap (λ bs. int_sum_by (λ k. anchors_of n.hull (entry_at n (table_of es) k)) (items_where_true bs (drop e (range_with_len 0 (length (live_of es)))))) (drop_all e (live_of es) many)

@@ -7,7 +7,7 @@ use Rattle.exact_predicates.specs.declared.tri.Tri.{Tri}
 use Rattle.lmt_network.specs.Network.{NetworkParts, tri_at}
 use Rattle.lmt_network.specs.Numbers.{HasSide}
 use Rattle.lmt_network.specs.Prices.{slack}
-use Rattle.price_ascent.specs.declared.entry.Entry.{Entry}
+use Rattle.price_ascent.specs.declared.entry.PriceEntry.{PriceEntry}
 use Rattle.price_ascent.specs.Ascent.{IsLeastSlack, IsLiveOn}
 use Rattle.price_ascent.specs.Belonging.{AreEntriesOf}
 use Rattle.price_ascent.specs.Entries.{prices_of}
@@ -15,7 +15,7 @@ use Rattle.price_ascent.specs.Steps.{AreSidesLive, IsLeastUpto, slack_at}
 use Rattle.price_ascent.proofs.LiveSides.{live_triangle, tri_of, triangle_live}
 
 -- one more triangle that is not live
-pub least_kept : (n : NetworkParts) (es : List Entry) (row : List ℕ) (i : ℕ) (least : Option ℤ) → IsLeastUpto n es row i least → ¬ AreSidesLive n es (slice_index row i) → IsLeastUpto n es row (i + 1) least
+pub least_kept : (n : NetworkParts) (es : List PriceEntry) (row : List ℕ) (i : ℕ) (least : Option ℤ) → IsLeastUpto n es row i least → ¬ AreSidesLive n es (slice_index row i) → IsLeastUpto n es row (i + 1) least
 least_kept n es row i None h dead = below_more (λ k. ¬ AreSidesLive n es (slice_index row k)) i h dead
 least_kept n es row i (Some m) h dead = (
   (h.0.0, omega (arith, h.0.1), h.0.2, h.0.3),
@@ -23,7 +23,7 @@ least_kept n es row i (Some m) h dead = (
 )
 
 -- one more that is live
-pub least_more : (n : NetworkParts) (es : List Entry) (row : List ℕ) (i : ℕ) (least : Option ℤ) (r : ℤ) → IsLeastUpto n es row i least → AreSidesLive n es (slice_index row i)
+pub least_more : (n : NetworkParts) (es : List PriceEntry) (row : List ℕ) (i : ℕ) (least : Option ℤ) (r : ℤ) → IsLeastUpto n es row i least → AreSidesLive n es (slice_index row i)
     → r ≤ℤ slack_at n es (slice_index row i) → ((m : ℤ) → least ≡ Some m → r ≤ℤ m) → (r ≡ slack_at n es (slice_index row i)) ⊎ (least ≡ Some r)
     → IsLeastUpto n es row (i + 1) (Some r)
 least_more n es row i None r h live low below one = (
@@ -45,7 +45,7 @@ least_more n es row i (Some m) r h live low below one =
     )
 
 -- the whole row of a side has the live triangles with this side
-pub least_all : (n : NetworkParts) (es : List Entry) (row : List ℕ) (u v i : ℕ) (least : Option ℤ) → AreEntriesOf n es
+pub least_all : (n : NetworkParts) (es : List PriceEntry) (row : List ℕ) (u v i : ℕ) (least : Option ℤ) → AreEntriesOf n es
     → ((t : ℕ) → Contains row t ↔ ((t < length n.tris) × HasSide (tri_at n t) u v)) → length row ≤ i → i ≤ length row → IsLeastUpto n es row i least
     → IsLeastSlack n.points n.hull (prices_of n es) u v (unwrap_or least (pos 0))
 least_all n es row u v i least b members all within h = at least h

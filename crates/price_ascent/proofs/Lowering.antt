@@ -7,7 +7,7 @@ use Rattle.exact_predicates.specs.declared.tri.Tri.{Tri}
 use Rattle.lmt_network.specs.Network.{NetworkParts, edge_at}
 use Rattle.lmt_network.specs.Numbers.{HasSide, IsHullNumber, IsNumberOf}
 use Rattle.lmt_network.specs.Prices.{IsFeasible, IsLiveTriangle, share, slack}
-use Rattle.price_ascent.specs.declared.entry.Entry.{Entry}
+use Rattle.price_ascent.specs.declared.entry.PriceEntry.{PriceEntry}
 use Rattle.price_ascent.specs.Ascent.{IsLeastSlack, IsLiveOn, lowest}
 use Rattle.price_ascent.specs.Belonging.{AreEntriesOf}
 use Rattle.price_ascent.specs.Entries.{entry, no_entry, prices_of}
@@ -23,7 +23,7 @@ pub inner_off : (n : NetworkParts) (e : ℕ) → ¬ IsHullNumber n e → on_hull
 inner_off n e inner = ⊎_elim (λ on. absurd (inner (hull_number n e on))) (λ off. off) (cases_Bool (on_hull n e))
 
 -- What lowering the price of the inner edge e by m changes.
-pub record IsFall (n : NetworkParts) (es fs : List Entry) (e : ℕ) (m : ℤ) : Type 0 where
+pub record IsFall (n : NetworkParts) (es fs : List PriceEntry) (e : ℕ) (m : ℤ) : Type 0 where
   pub change : IsChange n es fs e (lowered (entry es e) m)
   pub feasible : IsFeasible n.points n.hull (prices_of n es)
   pub live : (entry es e).live ≡ true
@@ -31,10 +31,10 @@ pub record IsFall (n : NetworkParts) (es fs : List Entry) (e : ℕ) (m : ℤ) : 
   pub least : IsLeastSlack n.points n.hull (prices_of n es) (edge_at n e).b (edge_at n e).a m
 
 -- how far the price falls
-abbrev pub fall : List Entry → ℕ → ℤ → ℤ
+abbrev pub fall : List PriceEntry → ℕ → ℤ → ℤ
 fall es e m = (entry es e).value -ℤ (lowered (entry es e) m).value
 
-pub fall_is : (n : NetworkParts) (es fs : List Entry) (e : ℕ) (m : ℤ) → IsFall n es fs e m → (pos 0 ≤ℤ fall es e m) × (fall es e m ≤ℤ m) × (lowest ≤ℤ (lowered (entry es e) m).value)
+pub fall_is : (n : NetworkParts) (es fs : List PriceEntry) (e : ℕ) (m : ℤ) → IsFall n es fs e m → (pos 0 ≤ℤ fall es e m) × (fall es e m ≤ℤ m) × (lowest ≤ℤ (lowered (entry es e) m).value)
 fall_is n es fs e m f =
     let p = (f.change.entries.each e f.change.e_in).price f.inner in
     let low = p.0 in
@@ -42,7 +42,7 @@ fall_is n es fs e m f =
     (omega (arith, ints, clamps, low, some), omega (arith, ints, clamps, low, some), omega (arith, ints, clamps))
 
 -- the shares after the fall
-pub shares_fallen : (n : NetworkParts) (es fs : List Entry) (e : ℕ) (m : ℤ) → IsFall n es fs e m
+pub shares_fallen : (n : NetworkParts) (es fs : List PriceEntry) (e : ℕ) (m : ℤ) → IsFall n es fs e m
     → ((lowered (entry es e) m).up ≡ share n.points n.hull (prices_of n fs) (edge_at n e).a (edge_at n e).b)
     × ((lowered (entry es e) m).down ≡ share n.points n.hull (prices_of n fs) (edge_at n e).b (edge_at n e).a)
 shares_fallen n es fs e m f =
@@ -50,18 +50,18 @@ shares_fallen n es fs e m f =
     let off = inner_off n e f.inner in
     let old = own_shares n es e c.entries c.e_in f.live in
     let is = new_entry n es fs e (lowered (entry es e) m) c in
-    let new = has_shares n fs e c.entries.network (changed_length n es fs e (lowered (entry es e) m) c) c.e_in (ap (λ (p : Entry). p.live) is ∙ f.live) in
+    let new = has_shares n fs e c.entries.network (changed_length n es fs e (lowered (entry es e) m) c) c.e_in (ap (λ (p : PriceEntry). p.live) is ∙ f.live) in
     let old_up = old.off_up off in
     let old_down = old.off_down off in
     let new_up = new.off_up off in
     let new_down = new.off_down off in
-    let value = ap (λ (p : Entry). p.value) is in
-    let left = ap (λ (p : Entry). p.left) is in
-    let right = ap (λ (p : Entry). p.right) is in
+    let value = ap (λ (p : PriceEntry). p.value) is in
+    let left = ap (λ (p : PriceEntry). p.left) is in
+    let right = ap (λ (p : PriceEntry). p.right) is in
     (omega (arith, ints, old_up, new_up, value, left), omega (arith, ints, old_down, new_down, value, right))
 
 -- all other shares of a live triangle are at least what they were
-fallen_sides : (n : NetworkParts) (es fs : List Entry) (e : ℕ) (m : ℤ) (t : Tri) → IsFall n es fs e m → IsLiveTriangle n.points (prices_of n es) t
+fallen_sides : (n : NetworkParts) (es fs : List PriceEntry) (e : ℕ) (m : ℤ) (t : Tri) → IsFall n es fs e m → IsLiveTriangle n.points (prices_of n es) t
     → AreUpTo (share n.points n.hull (prices_of n es)) (share n.points n.hull (prices_of n fs)) (edge_at n e).b (edge_at n e).a t
 fallen_sides n es fs e m t f over u v side =
     let k = side_number n es t u v f.change.entries.one_each over side in
@@ -82,7 +82,7 @@ fallen_sides n es fs e m t f over u v side =
     (cases_eq k.0 e)
 
 -- the prices stay feasible
-pub fallen_feasible : (n : NetworkParts) (es fs : List Entry) (e : ℕ) (m : ℤ) → IsFall n es fs e m → IsFeasible n.points n.hull (prices_of n fs)
+pub fallen_feasible : (n : NetworkParts) (es fs : List PriceEntry) (e : ℕ) (m : ℤ) → IsFall n es fs e m → IsFeasible n.points n.hull (prices_of n fs)
 fallen_feasible n es fs e m f t over =
     let c = f.change in
     let a = (edge_at n e).a in
@@ -111,7 +111,7 @@ fallen_feasible n es fs e m f t over =
     (side_or_not t b a)
 
 -- and are entries of the network
-pub fallen_entries : (n : NetworkParts) (es fs : List Entry) (e : ℕ) (m : ℤ) → IsFall n es fs e m → AreEntriesOf n fs
+pub fallen_entries : (n : NetworkParts) (es fs : List PriceEntry) (e : ℕ) (m : ℤ) → IsFall n es fs e m → AreEntriesOf n fs
 fallen_entries n es fs e m f =
     let c = f.change in
     let h = c.entries.each e c.e_in in
@@ -130,7 +130,7 @@ fallen_entries n es fs e m f =
     })
 
 -- where the price does not fall all stays as it is
-pub not_fallen : (n : NetworkParts) (es fs : List Entry) (e : ℕ) (m : ℤ) → IsFall n es fs e m → (entry es e).value ≤ℤ (lowered (entry es e) m).value → fs ≡ es
+pub not_fallen : (n : NetworkParts) (es fs : List PriceEntry) (e : ℕ) (m : ℤ) → IsFall n es fs e m → (entry es e).value ≤ℤ (lowered (entry es e) m).value → fs ≡ es
 not_fallen n es fs e m f rest =
     let p = entry es e in
     let some = (fall_is n es fs e m f).0 in

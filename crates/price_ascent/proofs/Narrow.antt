@@ -9,9 +9,9 @@ use Rattle.exact_predicates.proofs.Equalities.{Joins-comm, Joins-ends}
 use Rattle.lmt_network.specs.Network.{NetworkParts, edge_at}
 use Rattle.lmt_network.specs.Numbers.{HasSide, IsHullNumber, IsNumberOf}
 use Rattle.lmt_network.specs.Prices.{IsFeasible, IsLiveTriangle, share}
-use Rattle.price_ascent.specs.declared.entry.Entry.{Entry}
+use Rattle.price_ascent.specs.declared.entry.PriceEntry.{PriceEntry}
 use Rattle.price_ascent.specs.Ascent.{IsLiveOn}
-use Rattle.price_ascent.specs.Belonging.{AreEntriesOf, AreZeroWhereBare, BelongTo, IsAnchor, IsBareSide, IsWithinLimits}
+use Rattle.price_ascent.specs.Belonging.{AreEntriesOf, AreZeroWhereBare, BelongTo, IsAnchor, IsBareSide, HasNarrowRanges}
 use Rattle.price_ascent.specs.Entries.{entry, live_of, prices_of}
 use Rattle.price_ascent.proofs.Changed.{hull_of}
 use Rattle.price_ascent.proofs.Changes.{sum-beside, sum-beside_up}
@@ -23,7 +23,7 @@ use Rattle.price_ascent.proofs.Shares.{hull_number, inner_number, on_hull, own_s
 use Rattle.price_ascent.proofs.SlackSums.{share-down_kept, share-up_kept}
 
 -- they stay such where no price rises and no anchor of the hull falls
-pub belong_kept : (n : NetworkParts) (es fs : List Entry) → BelongTo n es → AreEntriesOf n fs → AreZeroWhereBare n fs → IsFeasible n.points n.hull (prices_of n fs)
+pub belong_kept : (n : NetworkParts) (es fs : List PriceEntry) → BelongTo n es → AreEntriesOf n fs → AreZeroWhereBare n fs → IsFeasible n.points n.hull (prices_of n fs)
     → ((k : ℕ) → ¬ IsHullNumber n k → (entry fs k).value ≤ℤ (entry es k).value) → ((k : ℕ) → IsHullNumber n k → (entry es k).value ≤ℤ (entry fs k).value) → BelongTo n fs
 belong_kept n es fs b entries bare feasible falls rises =
     record {
@@ -35,7 +35,7 @@ belong_kept n es fs b entries bare feasible falls rises =
     }
 
 -- anchors that are 0 where no live triangle is stay so where they and the live edges are the same
-pub bare_kept : (n : NetworkParts) (es fs : List Entry) → length es ≡ length n.edges → length fs ≡ length n.edges → live_of fs ≡ live_of es
+pub bare_kept : (n : NetworkParts) (es fs : List PriceEntry) → length es ≡ length n.edges → length fs ≡ length n.edges → live_of fs ≡ live_of es
     → ((k : ℕ) → IsHullNumber n k → (entry fs k).value ≡ (entry es k).value) → ((k : ℕ) → (entry fs k).left ≡ (entry es k).left) → ((k : ℕ) → (entry fs k).right ≡ (entry es k).right)
     → AreZeroWhereBare n es → AreZeroWhereBare n fs
 bare_kept n es fs one_es one_fs live values lefts rights z k k_in =
@@ -49,11 +49,11 @@ bare_kept n es fs one_es one_fs live values lefts rights z k k_in =
     back u v bare t on = bare t (on.0, same_live n es fs t one_es one_fs (sym live) on.1)
 
 -- the two shares of a live edge
-record AreNarrow (p : Entry) : Type 0 where
+record AreNarrow (p : PriceEntry) : Type 0 where
   up : p.up ≤ℤ pos (403 * 10 ^ 15)
   down : p.down ≤ℤ pos (3 * 10 ^ 15)
 
-narrow : (n : NetworkParts) (es : List Entry) (e : ℕ) → BelongTo n es → e < length n.edges → (entry es e).live ≡ true → AreNarrow (entry es e)
+narrow : (n : NetworkParts) (es : List PriceEntry) (e : ℕ) → BelongTo n es → e < length n.edges → (entry es e).live ≡ true → AreNarrow (entry es e)
 narrow n es e b e_in live =
     let h = own_shares n es e b.entries e_in live in
     let is = b.entries.each e e_in in
@@ -75,7 +75,7 @@ narrow n es e b e_in live =
     record { up = omega (arith, ints); down = omega (arith, ints) })
     (cases_Bool (on_hull n e))
 
-module _ {n : NetworkParts} {es : List Entry} (b : BelongTo n es) (t : Tri) (over : IsLiveTriangle n.points (prices_of n es) t) where
+module _ {n : NetworkParts} {es : List PriceEntry} (b : BelongTo n es) (t : Tri) (over : IsLiveTriangle n.points (prices_of n es) t) where
   -- the shares of a live triangle
   low : (x y : ℕ) → HasSide t x y → y < x → share n.points n.hull (prices_of n es) x y ≤ℤ pos (3 * 10 ^ 15)
   low x y side l =
@@ -107,7 +107,7 @@ module _ {n : NetworkParts} {es : List Entry} (b : BelongTo n es) (t : Tri) (ove
       omega (arith, ints, all, some, gross)
 
 -- an anchor that is small beside a live triangle, and 0 where there is none
-small_anchor : (n : NetworkParts) (es : List Entry) (u v : ℕ) (y : ℤ) → ((t : Tri) → IsLiveOn n.points (prices_of n es) u v t → y <ℤ pos (10 ^ 18))
+small_anchor : (n : NetworkParts) (es : List PriceEntry) (u v : ℕ) (y : ℤ) → ((t : Tri) → IsLiveOn n.points (prices_of n es) u v t → y <ℤ pos (10 ^ 18))
     → (IsBareSide n.points (prices_of n es) u v → y ≡ pos 0) → y <ℤ pos (10 ^ 18)
 small_anchor n es u v y beside bare =
     by_lt_z y (pos (10 ^ 18)) (λ l. l)
@@ -115,13 +115,13 @@ small_anchor n es u v y beside bare =
     let zero = bare (λ t on. let l = beside t on in absurd (omega (arith, ints, large, l))) in
     omega (arith, ints, zero))
 
-hull_small : (n : NetworkParts) (es : List Entry) (e u v : ℕ) → BelongTo n es → IsNumberOf n u v e → IsHullPair n.hull u v → (entry es e).value <ℤ pos (10 ^ 18)
+hull_small : (n : NetworkParts) (es : List PriceEntry) (e u v : ℕ) → BelongTo n es → IsNumberOf n u v e → IsHullPair n.hull u v → (entry es e).value <ℤ pos (10 ^ 18)
 hull_small n es e u v b is pair =
     small_anchor n es u v (entry es e).value
     (λ t on. any_side b t on.1 u v (entry es e).value on.0 (hull_gross n es e u v b.entries is pair)) ((b.bare e is.0).hull u v is pair)
 
 -- an inner edge that is live
-left_small : (n : NetworkParts) (es : List Entry) (e : ℕ) → BelongTo n es → e < length n.edges → (entry es e).live ≡ true → ¬ IsHullNumber n e → (entry es e).left <ℤ pos (10 ^ 18)
+left_small : (n : NetworkParts) (es : List PriceEntry) (e : ℕ) → BelongTo n es → e < length n.edges → (entry es e).live ≡ true → ¬ IsHullNumber n e → (entry es e).left <ℤ pos (10 ^ 18)
 left_small n es e b e_in live inner =
     let h = b.entries.each e e_in in
     let light = b.entries.light e e_in live in
@@ -131,7 +131,7 @@ left_small n es e b e_in live inner =
     let x = edge_at n e in
     small_anchor n es x.a x.b (entry es e).left (λ t on. up_side b t on.1 x.a x.b (entry es e).left on.0 x.ascending (omega (arith, ints, old, up, low, light))) (b.bare e e_in).left
 
-right_small : (n : NetworkParts) (es : List Entry) (e : ℕ) → BelongTo n es → e < length n.edges → (entry es e).live ≡ true → ¬ IsHullNumber n e → (entry es e).right <ℤ pos (10 ^ 18)
+right_small : (n : NetworkParts) (es : List PriceEntry) (e : ℕ) → BelongTo n es → e < length n.edges → (entry es e).live ≡ true → ¬ IsHullNumber n e → (entry es e).right <ℤ pos (10 ^ 18)
 right_small n es e b e_in live inner =
     let h = b.entries.each e e_in in
     let old = (own_shares n es e b.entries e_in live).off_down (inner_off n e inner) in
@@ -141,7 +141,7 @@ right_small n es e b e_in live inner =
     small_anchor n es x.b x.a (entry es e).right (λ t on. any_side b t on.1 x.b x.a (entry es e).right on.0 (omega (arith, ints, old, down, high))) (b.bare e e_in).right
 
 -- the anchors of the sides of an edge
-side_anchors : (n : NetworkParts) (es : List Entry) (e : ℕ) → BelongTo n es → e < length n.edges → IsAnchor (entry es e).left × IsAnchor (entry es e).right
+side_anchors : (n : NetworkParts) (es : List PriceEntry) (e : ℕ) → BelongTo n es → e < length n.edges → IsAnchor (entry es e).left × IsAnchor (entry es e).right
 side_anchors n es e b e_in =
     let h = b.entries.each e e_in in
     let left = h.left.0 in
@@ -152,7 +152,7 @@ side_anchors n es e b e_in =
     (cases_Bool (entry es e).anchored)
 
 -- all amounts are within their limits
-pub limits : (n : NetworkParts) (es : List Entry) (e : ℕ) → BelongTo n es → e < length n.edges → IsWithinLimits n.hull (kept_price n es e)
+pub limits : (n : NetworkParts) (es : List PriceEntry) (e : ℕ) → BelongTo n es → e < length n.edges → HasNarrowRanges n.hull (kept_price n es e)
 limits n es e b e_in =
     record {
       price = (b.entries.each e e_in).price;

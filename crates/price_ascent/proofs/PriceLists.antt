@@ -20,51 +20,51 @@ use Rattle.lmt_network.proofs.BoundLaws.{below_split_law}
 use Rattle.lmt_network.proofs.LowerBounds.{below_law}
 use Rattle.lmt_network.proofs.Picked.{AllPairs-picked, All-from_members, flag_in, flag_from_live, picked_in}
 use Rattle.std.proofs.lemmas.List.{get_or-map, length-map}
-use Rattle.price_ascent.specs.declared.entry.Entry.{Entry}
-use Rattle.price_ascent.specs.Belonging.{AreEntriesOf, BelongTo, IsWithinLimits, IsWithinRanges}
+use Rattle.price_ascent.specs.declared.entry.PriceEntry.{PriceEntry}
+use Rattle.price_ascent.specs.Belonging.{AreEntriesOf, BelongTo, HasNarrowRanges, IsWithinRanges}
 use Rattle.price_ascent.specs.Entries.{anchored_edges, entry, live_of, no_entry, prices_of, table_of}
 use Rattle.price_ascent.proofs.Kept.{entry_at-kept, get_or-mapped, kept_price, live_number}
 use Rattle.price_ascent.proofs.LiveSides.{edges-kept}
 use Rattle.price_ascent.proofs.Narrow.{limits}
 
 -- a live number is that of an edge
-pub live_in : (n : NetworkParts) (es : List Entry) (k : ℕ) → length es ≡ length n.edges → Contains (live_numbers (live_of es)) k → k < length n.edges
+pub live_in : (n : NetworkParts) (es : List PriceEntry) (k : ℕ) → length es ≡ length n.edges → Contains (live_numbers (live_of es)) k → k < length n.edges
 live_in n es k one_each has =
     let l = flag_in (live_of es) k (flag_from_live (live_of es) k has) in
-    let many = length-map es (λ (p : Entry). p.live) in
+    let many = length-map es (λ (p : PriceEntry). p.live) in
     omega arith
 
 -- what holds of each price
-each_price : (n : NetworkParts) (es : List Entry) (P : Priced → Type 0) → length es ≡ length n.edges → ((k : ℕ) → k < length n.edges → P (kept_price n es k)) → All P (prices_of n es)
+each_price : (n : NetworkParts) (es : List PriceEntry) (P : Priced → Type 0) → length es ≡ length n.edges → ((k : ℕ) → k < length n.edges → P (kept_price n es k)) → All P (prices_of n es)
 each_price n es P one_each each =
     All-map P (entry_at n (table_of es)) (live_numbers (live_of es))
     (All-from_members (λ k. P (entry_at n (table_of es) k)) (live_numbers (live_of es))
     (λ k has. subst P (sym (entry_at-kept n es k)) (each k (live_in n es k one_each has))))
 
-pub are_prices : (n : NetworkParts) (es : List Entry) → AreEntriesOf n es → ArePrices (anchored_edges n es) (prices_of n es)
+pub are_prices : (n : NetworkParts) (es : List PriceEntry) → AreEntriesOf n es → ArePrices (anchored_edges n es) (prices_of n es)
 are_prices n es b =
     record {
       ascending = subst (λ (xs : List Edge). AllPairs EdgePrecedes xs) (sym (edges-kept n es b.one_each)) (AllPairs-picked EdgePrecedes (live_of es) n.edges b.network.ascending);
       not_negative = each_price n es (λ p. (pos 0 ≤ℤ p.left) × (pos 0 ≤ℤ p.right)) b.one_each (λ k k_in. ((b.each k k_in).left.0, (b.each k k_in).right.0));
       elsewhere = each_price n es (λ p. Contains (anchored_edges n es) p.edge ⊎ ((p.left ≡ pos 0) × (p.right ≡ pos 0))) b.one_each (λ k k_in.
           ⊎_elim
-          (λ (on : (entry es k).anchored ≡ true). inl (picked_in (map (λ p. p.anchored) es) n.edges k _ k_in (get_or-mapped (λ (p : Entry). p.anchored) es k no_entry ∙ on)))
+          (λ (on : (entry es k).anchored ≡ true). inl (picked_in (map (λ p. p.anchored) es) n.edges k _ k_in (get_or-mapped (λ (p : PriceEntry). p.anchored) es k no_entry ∙ on)))
           (λ (off : (entry es k).anchored ≡ false). inr ((b.each k k_in).elsewhere off))
           (cases_Bool (entry es k).anchored));
     }
 
 -- the amounts of live edges are within their limits
-pub within_limits : (n : NetworkParts) (es : List Entry) → BelongTo n es → All (IsWithinLimits n.hull) (prices_of n es)
-within_limits n es b = each_price n es (IsWithinLimits n.hull) b.entries.one_each (λ k k_in. limits n es k b k_in)
+pub within_limits : (n : NetworkParts) (es : List PriceEntry) → BelongTo n es → All (HasNarrowRanges n.hull) (prices_of n es)
+within_limits n es b = each_price n es (HasNarrowRanges n.hull) b.entries.one_each (λ k k_in. limits n es k b k_in)
 
 -- no triangulation with live edges that has all anchored edges is shorter than the bound
-pub below_with_anchored : (n : NetworkParts) (es : List Entry) (tris : List Tri) → AreEntriesOf n es → IsFeasible n.points n.hull (prices_of n es) → IsTriangulation n.points n.hull tris
+pub below_with_anchored : (n : NetworkParts) (es : List PriceEntry) (tris : List Tri) → AreEntriesOf n es → IsFeasible n.points n.hull (prices_of n es) → IsTriangulation n.points n.hull tris
     → HasEdgesIn n.hull tris (live_edges n (live_of es)) → All (IsEdgeOf n.hull tris) (anchored_edges n es) → bound n.hull (prices_of n es) ≤ℤ pos (lo n.points (edges n.hull tris))
 below_with_anchored n es tris b feasible t live each =
     below_law n.points n.hull (anchored_edges n es) (prices_of n es) tris (are_prices n es b) feasible b.network.hull_is t
     (subst (HasEdgesIn n.hull tris) (sym (edges-kept n es b.one_each)) live) each
 
-pub below_of_skeleton : (n : NetworkParts) (es : List Entry) (diamond : Diamond) (tris : List Tri) → AreEntriesOf n es → IsFeasible n.points n.hull (prices_of n es)
+pub below_of_skeleton : (n : NetworkParts) (es : List PriceEntry) (diamond : Diamond) (tris : List Tri) → AreEntriesOf n es → IsFeasible n.points n.hull (prices_of n es)
     → IsLive n.points n.hull diamond (live_edges n (live_of es)) → All (IsSkeletonEdge n.points (live_edges n (live_of es))) (anchored_edges n es) → IsTriangulation n.points n.hull tris
     → HasEdgesIn n.hull tris (live_edges n (live_of es)) → bound n.hull (prices_of n es) ≤ℤ pos (lo n.points (edges n.hull tris))
 below_of_skeleton n es diamond tris b feasible is_live skeleton t live =
@@ -80,7 +80,7 @@ below_of_skeleton n es diamond tris b feasible is_live skeleton t live =
     t (subst (HasEdgesIn n.hull tris) same live)
 
 -- amounts that an ascent gives are in the ranges of a report
-pub ranges_of_ascent : (n : NetworkParts) (es : List Entry) → BelongTo n es → All (IsWithinRanges n.hull) (prices_of n es)
+pub ranges_of_ascent : (n : NetworkParts) (es : List PriceEntry) → BelongTo n es → All (IsWithinRanges n.hull) (prices_of n es)
 ranges_of_ascent n es b =
     each_price n es (IsWithinRanges n.hull) b.entries.one_each (λ k k_in.
     let l = limits n es k b k_in in
@@ -98,7 +98,7 @@ ranges_of_ascent n es b =
     })
 
 -- what holds of all prices holds of that of a live edge
-pub price_of_live : (n : NetworkParts) (es : List Entry) (P : Priced → Type 0) (e : ℕ) → All P (prices_of n es) → (entry es e).live ≡ true → P (kept_price n es e)
+pub price_of_live : (n : NetworkParts) (es : List PriceEntry) (P : Priced → Type 0) (e : ℕ) → All P (prices_of n es) → (entry es e).live ≡ true → P (kept_price n es e)
 price_of_live n es P e all live =
     let nums = live_numbers (live_of es) in
     let f = entry_at n (table_of es) in

@@ -7,7 +7,7 @@ use Rattle.lmt_network.specs.Numbers.{IsHullNumber}
 use Rattle.lmt_network.specs.PriceTables.{PriceTable}
 use Rattle.lmt_network.specs.Prices.{IsFeasible, slack}
 use Rattle.lmt_network.proofs.Picked.{Contains-cases}
-use Rattle.price_ascent.specs.declared.entry.Entry.{Entry}
+use Rattle.price_ascent.specs.declared.entry.PriceEntry.{PriceEntry}
 use Rattle.price_ascent.specs.Ascent.{IsLeastSlack, IsLiveOn}
 use Rattle.price_ascent.specs.Belonging.{AreEntriesOf, AreZeroWhereBare}
 use Rattle.price_ascent.specs.Entries.{entry, live_of, prices_of, table_of}
@@ -16,7 +16,7 @@ use Rattle.price_ascent.proofs.LiveSides.{same_live}
 use Rattle.price_ascent.proofs.Rises.{AreRisen}
 
 -- One side has been raised.
-pub record IsOneRaised (n : NetworkParts) (fs gs : List Entry) (u v : ℕ) : Type 0 where
+pub record IsOneRaised (n : NetworkParts) (fs gs : List PriceEntry) (u v : ℕ) : Type 0 where
   pub before : AreEntriesOf n fs
   pub entries : AreEntriesOf n gs
   pub bare : AreZeroWhereBare n fs → AreZeroWhereBare n gs
@@ -32,7 +32,7 @@ pub record IsOneRaised (n : NetworkParts) (fs gs : List Entry) (u v : ℕ) : Typ
   pub risen : AreRisen n fs gs u v m
 
 -- no side has been raised yet
-pub none_raised : (n : NetworkParts) (es : List Entry) (sides : List (ℕ × ℕ)) → AreEntriesOf n es → IsFeasible n.points n.hull (prices_of n es) → AreRaised n es es sides sides
+pub none_raised : (n : NetworkParts) (es : List PriceEntry) (sides : List (ℕ × ℕ)) → AreEntriesOf n es → IsFeasible n.points n.hull (prices_of n es) → AreRaised n es es sides sides
 none_raised n es sides b feasible =
     record {
       entries = b;
@@ -50,14 +50,14 @@ none_raised n es sides b feasible =
     }
 
 -- live triangles before and after
-live_after : (n : NetworkParts) (fs gs : List Entry) (p q u v : ℕ) (t : Tri) → IsOneRaised n fs gs u v → IsLiveOn n.points (prices_of n fs) p q t → IsLiveOn n.points (prices_of n gs) p q t
+live_after : (n : NetworkParts) (fs gs : List PriceEntry) (p q u v : ℕ) (t : Tri) → IsOneRaised n fs gs u v → IsLiveOn n.points (prices_of n fs) p q t → IsLiveOn n.points (prices_of n gs) p q t
 live_after n fs gs p q u v t r on = (on.0, same_live n fs gs t r.before.one_each r.entries.one_each (sym r.live) on.1)
 
-live_before : (n : NetworkParts) (fs gs : List Entry) (p q u v : ℕ) (t : Tri) → IsOneRaised n fs gs u v → IsLiveOn n.points (prices_of n gs) p q t → IsLiveOn n.points (prices_of n fs) p q t
+live_before : (n : NetworkParts) (fs gs : List PriceEntry) (p q u v : ℕ) (t : Tri) → IsOneRaised n fs gs u v → IsLiveOn n.points (prices_of n gs) p q t → IsLiveOn n.points (prices_of n fs) p q t
 live_before n fs gs p q u v t r on = (on.0, same_live n gs fs t r.entries.one_each r.before.one_each r.live on.1)
 
 -- a settled side stays so
-keeps_settled : (n : NetworkParts) (fs gs : List Entry) (u v p q : ℕ) → IsOneRaised n fs gs u v → IsSettled n fs p q → IsSettled n gs p q
+keeps_settled : (n : NetworkParts) (fs gs : List PriceEntry) (u v p q : ℕ) → IsOneRaised n fs gs u v → IsSettled n fs p q → IsSettled n gs p q
 keeps_settled n fs gs u v p q r (inl (t, on, zero)) =
     let after = live_after n fs gs p q u v t r on in
     let never = r.risen.never t on.1 in
@@ -66,7 +66,7 @@ keeps_settled n fs gs u v p q r (inl (t, on, zero)) =
 keeps_settled n fs gs u v p q r (inr bare) = inr (λ t on. bare t (live_before n fs gs p q u v t r on))
 
 -- and the one that was raised is settled
-now_settled : (n : NetworkParts) (fs gs : List Entry) (u v : ℕ) → IsOneRaised n fs gs u v → IsSettled n gs u v
+now_settled : (n : NetworkParts) (fs gs : List PriceEntry) (u v : ℕ) → IsOneRaised n fs gs u v → IsSettled n gs u v
 now_settled n fs gs u v r =
     ⊎_elim
     (λ (h : ((t : Tri) × IsLiveOn n.points (prices_of n fs) u v t × (slack n.points n.hull (prices_of n fs) t ≡ r.m))
@@ -81,7 +81,7 @@ now_settled n fs gs u v r =
     r.least
 
 -- one side more
-pub more_raised : (n : NetworkParts) (es fs gs : List Entry) (sides rest : List (ℕ × ℕ)) (u v : ℕ) → AreRaised n es fs sides ((u, v) ∷ rest) → IsOneRaised n fs gs u v → AreRaised n es gs sides rest
+pub more_raised : (n : NetworkParts) (es fs gs : List PriceEntry) (sides rest : List (ℕ × ℕ)) (u v : ℕ) → AreRaised n es fs sides ((u, v) ∷ rest) → IsOneRaised n fs gs u v → AreRaised n es gs sides rest
 more_raised n es fs gs sides rest u v h r =
     record {
       entries = r.entries;

@@ -8,7 +8,7 @@ use Rattle.lmt_network.specs.Network.{NetworkParts, edge_at}
 use Rattle.lmt_network.specs.Numbers.{IsHullNumber, IsNumberOf}
 use Rattle.lmt_network.specs.Prices.{IsFeasible, is_on_hull}
 use Rattle.lmt_network.proofs.Entries.{is_on_hull-comm, is_on_hull_decides}
-use Rattle.price_ascent.specs.declared.entry.Entry.{Entry}
+use Rattle.price_ascent.specs.declared.entry.PriceEntry.{PriceEntry}
 use Rattle.price_ascent.specs.Belonging.{AreEntriesOf}
 use Rattle.price_ascent.specs.Entries.{entry, no_entry, prices_of, table_of}
 use Rattle.price_ascent.specs.Raised.{with_more}
@@ -23,14 +23,14 @@ use Rattle.price_ascent.proofs.SlackBounds.{least_fits}
 use Rattle.price_ascent.proofs.Raised.{IsOneRaised}
 
 -- a field of all entries, where it stays and where it grows
-field_same : (n : NetworkParts) (fs gs : List Entry) (e : ℕ) (x : Entry) (f : Entry → ℤ) (k : ℕ) → IsChange n fs gs e x → f x ≡ f (entry fs e) → f (entry gs k) ≡ f (entry fs k)
+field_same : (n : NetworkParts) (fs gs : List PriceEntry) (e : ℕ) (x : PriceEntry) (f : PriceEntry → ℤ) (k : ℕ) → IsChange n fs gs e x → f x ≡ f (entry fs e) → f (entry gs k) ≡ f (entry fs k)
 field_same n fs gs e x f k c same =
     ⊎_elim
     (λ (is : k ≡ e). subst (λ (i : ℕ). f (entry gs i) ≡ f (entry fs i)) (sym is) (ap f (new_entry n fs gs e x c) ∙ same))
     (λ (away : k ≢ e). ap f (other_entry n fs gs e x k c away))
     (cases_eq k e)
 
-field_more : (n : NetworkParts) (fs gs : List Entry) (e : ℕ) (x : Entry) (f : Entry → ℤ) (k : ℕ) → IsChange n fs gs e x → f (entry fs e) ≤ℤ f x → f (entry fs k) ≤ℤ f (entry gs k)
+field_more : (n : NetworkParts) (fs gs : List PriceEntry) (e : ℕ) (x : PriceEntry) (f : PriceEntry → ℤ) (k : ℕ) → IsChange n fs gs e x → f (entry fs e) ≤ℤ f x → f (entry fs k) ≤ℤ f (entry gs k)
 field_more n fs gs e x f k c more =
     ⊎_elim
     (λ (is : k ≡ e). subst (λ (i : ℕ). f (entry fs i) ≤ℤ f (entry gs i)) (sym is) (let same = ap f (new_entry n fs gs e x c) in omega (arith, ints, same, more)))
@@ -38,20 +38,20 @@ field_more n fs gs e x f k c more =
     (cases_eq k e)
 
 -- the list of a field with more at one place
-field_list : (fs : List Entry) (e : ℕ) (x : Entry) (m : ℤ) (f : Entry → ℤ) → f no_entry ≡ pos 0 → f x ≡ f (entry fs e) +ℤ m → map f (set fs e x) ≡ with_more (map f fs) e m
+field_list : (fs : List PriceEntry) (e : ℕ) (x : PriceEntry) (m : ℤ) (f : PriceEntry → ℤ) → f no_entry ≡ pos 0 → f x ≡ f (entry fs e) +ℤ m → map f (set fs e x) ≡ with_more (map f fs) e m
 field_list fs e x m f none is =
     let at : get_or (map f fs) e (pos 0) ≡ f (entry fs e) = subst (λ (z : ℤ). get_or (map f fs) e z ≡ f (entry fs e)) none (get_or-mapped f fs e no_entry) in
     map-set f fs e x ∙ ap (set (map f fs) e) (is ∙ ap (λ z. z +ℤ m) (sym at))
 
-pub field_kept : (fs : List Entry) (e : ℕ) (x : Entry) (f : Entry → ℤ) → f x ≡ f (entry fs e) → map f (set fs e x) ≡ map f fs
+pub field_kept : (fs : List PriceEntry) (e : ℕ) (x : PriceEntry) (f : PriceEntry → ℤ) → f x ≡ f (entry fs e) → map f (set fs e x) ≡ map f fs
 field_kept fs e x f is = same_field f fs e x (f no_entry) (get_or-mapped f fs e no_entry ∙ sym is)
 
-pub anchored-kept : (fs gs : List Entry) (e : ℕ) (x : Entry) → gs ≡ set fs e x → x.anchored ≡ (entry fs e).anchored → map (λ p. p.anchored) gs ≡ map (λ p. p.anchored) fs
+pub anchored-kept : (fs gs : List PriceEntry) (e : ℕ) (x : PriceEntry) → gs ≡ set fs e x → x.anchored ≡ (entry fs e).anchored → map (λ p. p.anchored) gs ≡ map (λ p. p.anchored) fs
 anchored-kept fs gs e x gs_is is =
-    ap (map (λ p. p.anchored)) gs_is ∙ same_field (λ p. p.anchored) fs e x false (get_or-mapped (λ (p : Entry). p.anchored) fs e no_entry ∙ sym is)
+    ap (map (λ p. p.anchored)) gs_is ∙ same_field (λ p. p.anchored) fs e x false (get_or-mapped (λ (p : PriceEntry). p.anchored) fs e no_entry ∙ sym is)
 
 -- a raised left side
-pub left_raised-one : (n : NetworkParts) (fs gs : List Entry) (e : ℕ) → AreEntriesOf n fs → IsFeasible n.points n.hull (prices_of n fs) → e < length n.edges → (entry fs e).anchored ≡ true
+pub left_raised-one : (n : NetworkParts) (fs gs : List PriceEntry) (e : ℕ) → AreEntriesOf n fs → IsFeasible n.points n.hull (prices_of n fs) → e < length n.edges → (entry fs e).anchored ≡ true
     → IsRaisedEntry n fs gs e (edge_at n e).a (edge_at n e).b left_raised → IsOneRaised n fs gs (edge_at n e).a (edge_at n e).b
 left_raised-one n fs gs e b feasible e_in anchored r =
     let p = entry fs e in
@@ -85,7 +85,7 @@ left_raised-one n fs gs e b feasible e_in anchored r =
     }
 
 -- a raised right side
-pub right_raised-one : (n : NetworkParts) (fs gs : List Entry) (e : ℕ) → AreEntriesOf n fs → IsFeasible n.points n.hull (prices_of n fs) → e < length n.edges → (entry fs e).anchored ≡ true
+pub right_raised-one : (n : NetworkParts) (fs gs : List PriceEntry) (e : ℕ) → AreEntriesOf n fs → IsFeasible n.points n.hull (prices_of n fs) → e < length n.edges → (entry fs e).anchored ≡ true
     → IsRaisedEntry n fs gs e (edge_at n e).b (edge_at n e).a right_raised → IsOneRaised n fs gs (edge_at n e).b (edge_at n e).a
 right_raised-one n fs gs e b feasible e_in anchored r =
     let p = entry fs e in
@@ -121,7 +121,7 @@ right_raised-one n fs gs e b feasible e_in anchored r =
     }
 
 -- a raised pair of the hull
-pub hull_raised-one : (n : NetworkParts) (fs gs : List Entry) (e u v : ℕ) → AreEntriesOf n fs → IsFeasible n.points n.hull (prices_of n fs) → IsNumberOf n u v e → IsHullPair n.hull u v
+pub hull_raised-one : (n : NetworkParts) (fs gs : List PriceEntry) (e u v : ℕ) → AreEntriesOf n fs → IsFeasible n.points n.hull (prices_of n fs) → IsNumberOf n u v e → IsHullPair n.hull u v
     → IsRaisedEntry n fs gs e u v hull_raised → IsOneRaised n fs gs u v
 hull_raised-one n fs gs e u v b feasible is pair r =
     let p = entry fs e in
@@ -137,7 +137,7 @@ hull_raised-one n fs gs e u v b feasible is pair r =
       bare = λ z. bare_changed n fs gs e x c (hull_zero n fs e u v r.m b is pair r.least (z e is.0)) z;
       live = live_same n fs gs e x c;
       anchored = anchored-kept fs gs e x r.entry_is refl;
-      prices = λ k out. ap (λ (q : Entry). q.value) (other_entry n fs gs e x k c (λ same. out (subst (IsHullNumber n) (sym same) hull)));
+      prices = λ k out. ap (λ (q : PriceEntry). q.value) (other_entry n fs gs e x k c (λ same. out (subst (IsHullNumber n) (sym same) hull)));
       anchors = λ k. field_more n fs gs e x (λ q. q.value) k c (omega (arith, ints, some));
       lefts = λ k. field_more n fs gs e x (λ q. q.left) k c (omega (arith, ints));
       rights = λ k. field_more n fs gs e x (λ q. q.right) k c (omega (arith, ints));

@@ -7,7 +7,7 @@ use Rattle.lmt_network.specs.Network.{NetworkParts, edge_at}
 use Rattle.lmt_network.specs.Numbers.{HasSide, IsHullNumber, IsNumberOf}
 use Rattle.lmt_network.specs.Prices.{IsFeasible, share}
 use Rattle.lmt_network.proofs.Entries.{is_on_hull_decides}
-use Rattle.price_ascent.specs.declared.entry.Entry.{Entry}
+use Rattle.price_ascent.specs.declared.entry.PriceEntry.{PriceEntry}
 use Rattle.price_ascent.specs.Ascent.{IsLeastSlack}
 use Rattle.price_ascent.specs.Belonging.{AreEntriesOf, IsBareSide, IsZeroWhereBare}
 use Rattle.price_ascent.specs.Entries.{entry, prices_of}
@@ -21,13 +21,13 @@ use Rattle.price_ascent.proofs.Raising.{AreNewShares, new_shares}
 pub hull_on : (n : NetworkParts) (e : ℕ) → IsHullNumber n e → on_hull n e ≡ true
 hull_on n e hull = (is_on_hull_decides n.hull (edge_at n e).a (edge_at n e).b).1 hull
 
-hull_shares : (n : NetworkParts) (es fs : List Entry) (e : ℕ) (m : ℤ) → IsChange n es fs e (hull_raised (entry es e) m) → (entry es e).live ≡ true → IsHullNumber n e
+hull_shares : (n : NetworkParts) (es fs : List PriceEntry) (e : ℕ) (m : ℤ) → IsChange n es fs e (hull_raised (entry es e) m) → (entry es e).live ≡ true → IsHullNumber n e
     → AreNewShares n fs e (hull_raised (entry es e) m)
 hull_shares n es fs e m c live hull =
     let on = hull_on n e hull in
     let old = own_shares n es e c.entries c.e_in live in
     let new = new_shares n es fs e (hull_raised (entry es e) m) c live in
-    let value = ap (λ (p : Entry). p.value) (new_entry n es fs e (hull_raised (entry es e) m) c) in
+    let value = ap (λ (p : PriceEntry). p.value) (new_entry n es fs e (hull_raised (entry es e) m) c) in
     let old_up = old.on_up on in
     let old_down = old.on_down on in
     let new_up = new.on_up on in
@@ -35,7 +35,7 @@ hull_shares n es fs e m c live hull =
     (omega (arith, ints, old_up, new_up, value), omega (arith, ints, old_down, new_down, value))
 
 -- a pair of the hull
-pub hull_rise : (n : NetworkParts) (es fs : List Entry) (e u v : ℕ) (m : ℤ) → IsChange n es fs e (hull_raised (entry es e) m) → IsFeasible n.points n.hull (prices_of n es) → (entry es e).live ≡ true → IsNumberOf n u v e → IsHullPair n.hull u v
+pub hull_rise : (n : NetworkParts) (es fs : List PriceEntry) (e u v : ℕ) (m : ℤ) → IsChange n es fs e (hull_raised (entry es e) m) → IsFeasible n.points n.hull (prices_of n es) → (entry es e).live ≡ true → IsNumberOf n u v e → IsHullPair n.hull u v
     → IsLeastSlack n.points n.hull (prices_of n es) u v m → IsRise n es fs e u v m (hull_raised (entry es e) m)
 hull_rise n es fs e u v m c feasible live is pair least =
     let old_up = (c.entries.each e c.e_in).up live in
@@ -63,7 +63,7 @@ hull_rise n es fs e u v m c feasible live is pair least =
     }
 
 -- a bare pair of the edge leaves no slack to take
-hull_bare : (n : NetworkParts) (es : List Entry) (e u v p q : ℕ) (m : ℤ) → AreEntriesOf n es → IsNumberOf n u v e → IsHullPair n.hull u v → IsNumberOf n p q e → IsHullPair n.hull p q
+hull_bare : (n : NetworkParts) (es : List PriceEntry) (e u v p q : ℕ) (m : ℤ) → AreEntriesOf n es → IsNumberOf n u v e → IsHullPair n.hull u v → IsNumberOf n p q e → IsHullPair n.hull p q
     → IsLeastSlack n.points n.hull (prices_of n es) u v m → IsBareSide n.points (prices_of n es) p q → m ≡ pos 0
 hull_bare n es e u v p q m b is pair other other_pair least bare =
     bare_least n es u v m least
@@ -74,7 +74,7 @@ hull_bare n es e u v p q m b is pair other other_pair least bare =
     (same_or_turned n e u v p q is other))
 
 -- what a side of the hull gives and its anchor together
-pub hull_gross : (n : NetworkParts) (es : List Entry) (e u v : ℕ) → AreEntriesOf n es → IsNumberOf n u v e → IsHullPair n.hull u v
+pub hull_gross : (n : NetworkParts) (es : List PriceEntry) (e u v : ℕ) → AreEntriesOf n es → IsNumberOf n u v e → IsHullPair n.hull u v
     → (share n.points n.hull (prices_of n es) u v +ℤ (entry es e).value) ≤ℤ pos (3 * 10 ^ 15)
 hull_gross n es e u v entries is pair =
     let h = entries.each e is.0 in
@@ -97,7 +97,7 @@ hull_gross n es e u v entries is pair =
     (λ (s : (u ≡ b) × (v ≡ a)). subst (λ (z : ℕ). (f z v +ℤ y) ≤ℤ pos (3 * 10 ^ 15)) (sym s.0) (subst (λ (z : ℕ). (f b z +ℤ y) ≤ℤ pos (3 * 10 ^ 15)) (sym s.1) gross_down))
     (which_side n e u v is)
 
-pub hull_entries : (n : NetworkParts) (es fs : List Entry) (e u v : ℕ) (m : ℤ) → IsChange n es fs e (hull_raised (entry es e) m) → IsFeasible n.points n.hull (prices_of n es) → (entry es e).live ≡ true → IsNumberOf n u v e → IsHullPair n.hull u v
+pub hull_entries : (n : NetworkParts) (es fs : List PriceEntry) (e u v : ℕ) (m : ℤ) → IsChange n es fs e (hull_raised (entry es e) m) → IsFeasible n.points n.hull (prices_of n es) → (entry es e).live ≡ true → IsNumberOf n u v e → IsHullPair n.hull u v
     → IsLeastSlack n.points n.hull (prices_of n es) u v m → AreEntriesOf n fs
 hull_entries n es fs e u v m c feasible live is pair least =
     let h = c.entries.each e c.e_in in
@@ -122,7 +122,7 @@ hull_entries n es fs e u v m c feasible live is pair least =
       elsewhere = h.elsewhere;
     })
 
-pub hull_zero : (n : NetworkParts) (es : List Entry) (e u v : ℕ) (m : ℤ) → AreEntriesOf n es → IsNumberOf n u v e → IsHullPair n.hull u v → IsLeastSlack n.points n.hull (prices_of n es) u v m
+pub hull_zero : (n : NetworkParts) (es : List PriceEntry) (e u v : ℕ) (m : ℤ) → AreEntriesOf n es → IsNumberOf n u v e → IsHullPair n.hull u v → IsLeastSlack n.points n.hull (prices_of n es) u v m
     → IsZeroWhereBare n (prices_of n es) e (entry es e) → IsZeroWhereBare n (prices_of n es) e (hull_raised (entry es e) m)
 hull_zero n es e u v m b is pair least z =
     record {

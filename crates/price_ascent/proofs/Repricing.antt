@@ -8,7 +8,7 @@ use Rattle.lmt_network.specs.Numbers.{IsHullNumber}
 use Rattle.lmt_network.specs.PriceTables.{entry_at}
 use Rattle.lmt_network.proofs.Naming.{edge_at-once}
 use Rattle.lmt_network.proofs.Picked.{flag_in}
-use Rattle.price_ascent.specs.declared.entry.Entry.{Entry}
+use Rattle.price_ascent.specs.declared.entry.PriceEntry.{PriceEntry}
 use Rattle.price_ascent.specs.Belonging.{AreEntriesOf, IsWithinRanges}
 use Rattle.price_ascent.specs.Entries.{anchored_edges, entry, live_of, table_of, with_amounts}
 use Rattle.price_ascent.specs.Steps.{repriced}
@@ -20,21 +20,21 @@ use Rattle.price_ascent.proofs.Shares.{hull_number, on_hull, own_shares}
 use Rattle.price_ascent.proofs.Tightness.{anchored-number}
 
 -- What choosing the amounts of the edge e anew changes.
-pub record IsRepriced (n : NetworkParts) (es fs : List Entry) (e : ℕ) (value left right : ℤ) : Type 0 where
+pub record IsRepriced (n : NetworkParts) (es fs : List PriceEntry) (e : ℕ) (value left right : ℤ) : Type 0 where
   pub change : IsChange n es fs e (repriced (entry es e) (on_hull n e) value left right)
   pub live : (entry es e).live ≡ true
   pub ranges : IsWithinRanges n.hull (with_amounts n e value left right)
   pub elsewhere : Contains (anchored_edges n es) (edge_at n e) ⊎ ((left ≡ pos 0) × (right ≡ pos 0))
 
 -- a live edge has a number
-pub live_below : (n : NetworkParts) (es : List Entry) (e : ℕ) → AreEntriesOf n es → (entry es e).live ≡ true → e < length n.edges
+pub live_below : (n : NetworkParts) (es : List PriceEntry) (e : ℕ) → AreEntriesOf n es → (entry es e).live ≡ true → e < length n.edges
 live_below n es e b live =
     let l = flag_in (live_of es) e (live_at es e ∙ live) in
-    let many = length-map es (λ (p : Entry). p.live) in
+    let many = length-map es (λ (p : PriceEntry). p.live) in
     let one = b.one_each in
     omega arith
 
-module _ {n : NetworkParts} {es fs : List Entry} {e : ℕ} {value left right : ℤ} (r : IsRepriced n es fs e value left right) where
+module _ {n : NetworkParts} {es fs : List PriceEntry} {e : ℕ} {value left right : ℤ} (r : IsRepriced n es fs e value left right) where
   -- where the edge is not anchored its sides have no anchors
   pub no_anchors : (entry es e).anchored ≡ false → (left ≡ pos 0) × (right ≡ pos 0)
   no_anchors off =
@@ -59,9 +59,9 @@ module _ {n : NetworkParts} {es fs : List Entry} {e : ℕ} {value left right : �
       let own = own_shares n es e c.entries c.e_in r.live in
       let new = new_shares n es fs e (repriced (entry es e) (on_hull n e) value left right) c r.live in
       let is = new_entry n es fs e (repriced (entry es e) (on_hull n e) value left right) c in
-      let value_is = ap (λ (p : Entry). p.value) is in
-      let left_is = ap (λ (p : Entry). p.left) is in
-      let right_is = ap (λ (p : Entry). p.right) is in
+      let value_is = ap (λ (p : PriceEntry). p.value) is in
+      let left_is = ap (λ (p : PriceEntry). p.left) is in
+      let right_is = ap (λ (p : PriceEntry). p.right) is in
       ⊎_elim
       (λ on.
       let old = own.on_up on in
@@ -108,12 +108,12 @@ module _ {n : NetworkParts} {es fs : List Entry} {e : ℕ} {value left right : �
   pub repriced_edge : entry_at n (table_of fs) e ≡ with_amounts n e value left right
   repriced_edge =
       entry_at-kept n fs e
-      ∙ ap (λ (p : Entry). record { edge = edge_at n e; value = p.value; left = p.left; right = p.right }) (new_entry n es fs e (repriced (entry es e) (on_hull n e) value left right) r.change)
+      ∙ ap (λ (p : PriceEntry). record { edge = edge_at n e; value = p.value; left = p.left; right = p.right }) (new_entry n es fs e (repriced (entry es e) (on_hull n e) value left right) r.change)
 
   pub repriced_others : (f : ℕ) → f ≢ e → entry_at n (table_of fs) f ≡ entry_at n (table_of es) f
   repriced_others f away =
       entry_at-kept n fs f
-      ∙ (ap (λ (p : Entry). record { edge = edge_at n f; value = p.value; left = p.left; right = p.right }) (other_entry n es fs e (repriced (entry es e) (on_hull n e) value left right) f r.change away)
+      ∙ (ap (λ (p : PriceEntry). record { edge = edge_at n f; value = p.value; left = p.left; right = p.right }) (other_entry n es fs e (repriced (entry es e) (on_hull n e) value left right) f r.change away)
       ∙ sym (entry_at-kept n es f))
 
   pub repriced_live : live_of fs ≡ live_of es

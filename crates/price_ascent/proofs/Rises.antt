@@ -6,7 +6,7 @@ use Rattle.exact_predicates.specs.declared.tri.Tri.{Tri}
 use Rattle.lmt_network.specs.Network.{NetworkParts}
 use Rattle.lmt_network.specs.Numbers.{HasSide, IsNumberOf}
 use Rattle.lmt_network.specs.Prices.{IsFeasible, IsLiveTriangle, share, slack}
-use Rattle.price_ascent.specs.declared.entry.Entry.{Entry}
+use Rattle.price_ascent.specs.declared.entry.PriceEntry.{PriceEntry}
 use Rattle.price_ascent.specs.Ascent.{IsLeastSlack, IsLiveOn}
 use Rattle.price_ascent.specs.Belonging.{AreEntriesOf, IsBareSide, most_raised}
 use Rattle.price_ascent.specs.Entries.{entry, prices_of}
@@ -16,7 +16,7 @@ use Rattle.price_ascent.proofs.LiveSides.{side_number}
 use Rattle.price_ascent.proofs.SlackBounds.{least_fits, slack-beside}
 
 -- What a raise of the anchor of the side u to v of the edge e changes: the share of this side alone.
-pub record IsRise (n : NetworkParts) (es fs : List Entry) (e u v : ℕ) (m : ℤ) (x : Entry) : Type 0 where
+pub record IsRise (n : NetworkParts) (es fs : List PriceEntry) (e u v : ℕ) (m : ℤ) (x : PriceEntry) : Type 0 where
   pub change : IsChange n es fs e x
   pub feasible : IsFeasible n.points n.hull (prices_of n es)
   pub number : IsNumberOf n u v e
@@ -41,7 +41,7 @@ same_or_turned n e u v p q is other =
     (which_side n e u v is)
 
 -- the shares of all other sides of a live triangle stay
-risen_sides : (n : NetworkParts) (es fs : List Entry) (e u v : ℕ) (m : ℤ) (x : Entry) (t : Tri) → IsRise n es fs e u v m x → IsLiveTriangle n.points (prices_of n es) t
+risen_sides : (n : NetworkParts) (es fs : List PriceEntry) (e u v : ℕ) (m : ℤ) (x : PriceEntry) (t : Tri) → IsRise n es fs e u v m x → IsLiveTriangle n.points (prices_of n es) t
     → (p q : ℕ) → HasSide t p q → ((p ≡ u) × (q ≡ v)) ⊎ (share n.points n.hull (prices_of n fs) p q ≡ share n.points n.hull (prices_of n es) p q)
 risen_sides n es fs e u v m x t r over p q side =
     let k = side_number n es t p q r.change.entries.one_each over side in
@@ -59,12 +59,12 @@ risen_sides n es fs e u v m x t r over p q side =
     (cases_eq k.0 e)
 
 -- what a raise does to the slacks of live triangles
-pub record AreRisen (n : NetworkParts) (es fs : List Entry) (u v : ℕ) (m : ℤ) : Type 0 where
+pub record AreRisen (n : NetworkParts) (es fs : List PriceEntry) (u v : ℕ) (m : ℤ) : Type 0 where
   pub feasible : IsFeasible n.points n.hull (prices_of n fs)
   pub never : (t : Tri) → IsLiveTriangle n.points (prices_of n es) t → slack n.points n.hull (prices_of n fs) t ≤ℤ slack n.points n.hull (prices_of n es) t
   pub drops : (t : Tri) → IsLiveTriangle n.points (prices_of n es) t → HasSide t u v → (slack n.points n.hull (prices_of n fs) t +ℤ m) ≤ℤ slack n.points n.hull (prices_of n es) t
 
-risen_drops : (n : NetworkParts) (es fs : List Entry) (e u v : ℕ) (m : ℤ) (x : Entry) (t : Tri) → IsRise n es fs e u v m x → IsLiveTriangle n.points (prices_of n es) t
+risen_drops : (n : NetworkParts) (es fs : List PriceEntry) (e u v : ℕ) (m : ℤ) (x : PriceEntry) (t : Tri) → IsRise n es fs e u v m x → IsLiveTriangle n.points (prices_of n es) t
     → HasSide t u v → (slack n.points n.hull (prices_of n fs) t +ℤ m) ≤ℤ slack n.points n.hull (prices_of n es) t
 risen_drops n es fs e u v m x t r over side =
     let f = share n.points n.hull (prices_of n es) in
@@ -74,7 +74,7 @@ risen_drops n es fs e u v m x t r over side =
     (λ p q s. ⊎_elim (λ i. inl i) (λ (is : g p q ≡ f p q). inr (omega (arith, ints, is))) (risen_sides n es fs e u v m x t r over p q s))
     (omega (arith, ints, less)) side
 
-pub risen : (n : NetworkParts) (es fs : List Entry) (e u v : ℕ) (m : ℤ) (x : Entry) → IsRise n es fs e u v m x → AreRisen n es fs u v m
+pub risen : (n : NetworkParts) (es fs : List PriceEntry) (e u v : ℕ) (m : ℤ) (x : PriceEntry) → IsRise n es fs e u v m x → AreRisen n es fs u v m
 risen n es fs e u v m x r =
     let f = share n.points n.hull (prices_of n es) in
     let g = share n.points n.hull (prices_of n fs) in
@@ -110,7 +110,7 @@ risen n es fs e u v m x r =
     }
 
 -- where no live triangle has the side, the least slack is 0
-pub bare_least : (n : NetworkParts) (es : List Entry) (u v : ℕ) (m : ℤ) → IsLeastSlack n.points n.hull (prices_of n es) u v m → IsBareSide n.points (prices_of n es) u v → m ≡ pos 0
+pub bare_least : (n : NetworkParts) (es : List PriceEntry) (u v : ℕ) (m : ℤ) → IsLeastSlack n.points n.hull (prices_of n es) u v m → IsBareSide n.points (prices_of n es) u v → m ≡ pos 0
 bare_least n es u v m least bare =
     ⊎_elim
     (λ (h : ((t : Tri) × IsLiveOn n.points (prices_of n es) u v t × (slack n.points n.hull (prices_of n es) t ≡ m))
@@ -119,7 +119,7 @@ bare_least n es u v m least bare =
     least
 
 -- a raised anchor is no less than it was, and within its range
-pub raised-fits : (n : NetworkParts) (es : List Entry) (u v : ℕ) (m y : ℤ) → AreEntriesOf n es → IsFeasible n.points n.hull (prices_of n es) → IsLeastSlack n.points n.hull (prices_of n es) u v m
+pub raised-fits : (n : NetworkParts) (es : List PriceEntry) (u v : ℕ) (m y : ℤ) → AreEntriesOf n es → IsFeasible n.points n.hull (prices_of n es) → IsLeastSlack n.points n.hull (prices_of n es) u v m
     → y ≤ℤ pos most_raised → (share n.points n.hull (prices_of n es) u v +ℤ y) ≤ℤ pos (403 * 10 ^ 15) → (y ≤ℤ (y +ℤ m)) × ((y +ℤ m) ≤ℤ pos most_raised)
 raised-fits n es u v m y b feasible least high gross =
     let some = (least_fits n es u v m b feasible least).0 in

@@ -9,7 +9,7 @@ use Rattle.lmt_network.specs.Network.{IsNetwork, NetworkParts, edge_at}
 use Rattle.lmt_network.specs.Numbers.{IsHullNumber}
 use Rattle.lmt_network.specs.Prices.{is_on_hull, share, weight_between}
 use Rattle.lmt_network.proofs.Entries.{is_on_hull-comm, is_on_hull_decides}
-use Rattle.price_ascent.specs.declared.entry.Entry.{Entry}
+use Rattle.price_ascent.specs.declared.entry.PriceEntry.{PriceEntry}
 use Rattle.price_ascent.specs.Belonging.{AreEntriesOf}
 use Rattle.price_ascent.specs.Entries.{entry, prices_of}
 use Rattle.price_ascent.specs.Steps.{AreShares}
@@ -36,13 +36,13 @@ between_down ps a b l =
     ap (λ x. pos (weight ps (x, max b a))) low ∙ ap (λ y. pos (weight ps (a, y))) high
 
 -- what the shares of the edge e are
-pub record HasShares (n : NetworkParts) (es : List Entry) (e : ℕ) (up down : ℤ) : Type 0 where
+pub record HasShares (n : NetworkParts) (es : List PriceEntry) (e : ℕ) (up down : ℤ) : Type 0 where
   pub on_up : on_hull n e ≡ true → up ≡ pos (weight_of n e) -ℤ (entry es e).value
   pub on_down : on_hull n e ≡ true → down ≡ pos (weight_of n e) -ℤ (entry es e).value
   pub off_up : on_hull n e ≡ false → up ≡ (pos (weight_of n e) -ℤ (entry es e).value) -ℤ (entry es e).left
   pub off_down : on_hull n e ≡ false → down ≡ (entry es e).value -ℤ (entry es e).right
 
-pub has_shares : (n : NetworkParts) (es : List Entry) (e : ℕ) → IsNetwork n → length es ≡ length n.edges → e < length n.edges → (entry es e).live ≡ true
+pub has_shares : (n : NetworkParts) (es : List PriceEntry) (e : ℕ) → IsNetwork n → length es ≡ length n.edges → e < length n.edges → (entry es e).live ≡ true
     → HasShares n es e (share n.points n.hull (prices_of n es) (edge_at n e).a (edge_at n e).b) (share n.points n.hull (prices_of n es) (edge_at n e).b (edge_at n e).a)
 has_shares n es e net one_each e_in live =
     let x = edge_at n e in
@@ -66,7 +66,7 @@ hull_number n e on = (is_on_hull_decides n.hull (edge_at n e).a (edge_at n e).b)
 pub inner_number : (n : NetworkParts) (e : ℕ) → on_hull n e ≡ false → ¬ IsHullNumber n e
 inner_number n e off h = false≢true (sym off ∙ (is_on_hull_decides n.hull (edge_at n e).a (edge_at n e).b).1 h)
 
-pub own_shares : (n : NetworkParts) (es : List Entry) (e : ℕ) → AreEntriesOf n es → e < length n.edges → (entry es e).live ≡ true → HasShares n es e (entry es e).up (entry es e).down
+pub own_shares : (n : NetworkParts) (es : List PriceEntry) (e : ℕ) → AreEntriesOf n es → e < length n.edges → (entry es e).live ≡ true → HasShares n es e (entry es e).up (entry es e).down
 own_shares n es e b e_in live =
     let up = (b.each e e_in).up live in
     let down = (b.each e e_in).down live in
@@ -78,7 +78,7 @@ own_shares n es e b e_in live =
       off_down = λ off. down ∙ h.off_down off;
     }
 
-pub shares_fit : (n : NetworkParts) (es : List Entry) (e : ℕ) → AreEntriesOf n es → e < length n.edges → (entry es e).live ≡ true → AreShares (entry es e)
+pub shares_fit : (n : NetworkParts) (es : List PriceEntry) (e : ℕ) → AreEntriesOf n es → e < length n.edges → (entry es e).live ≡ true → AreShares (entry es e)
 shares_fit n es e b e_in live =
     let h = own_shares n es e b e_in live in
     let is = b.each e e_in in

@@ -7,7 +7,7 @@ use Rattle.exact_predicates.proofs.Corners.{corners_differ}
 use Rattle.lmt_network.specs.Network.{NetworkParts}
 use Rattle.lmt_network.specs.Numbers.{HasSide}
 use Rattle.lmt_network.specs.Prices.{IsFeasible, IsLiveTriangle, share, slack}
-use Rattle.price_ascent.specs.declared.entry.Entry.{Entry}
+use Rattle.price_ascent.specs.declared.entry.PriceEntry.{PriceEntry}
 use Rattle.price_ascent.specs.Ascent.{IsLeastSlack, IsLiveOn}
 use Rattle.price_ascent.specs.Belonging.{AreEntriesOf}
 use Rattle.price_ascent.specs.Entries.{prices_of}
@@ -18,7 +18,7 @@ use Rattle.price_ascent.proofs.Shares.{shares_fit}
 use Rattle.price_ascent.proofs.SlackSums.{share-down_kept, share-up_kept}
 
 -- the share of a side of a live triangle
-pub share-high : (n : NetworkParts) (es : List Entry) (t : Tri) (u v : ℕ) → AreEntriesOf n es → IsLiveTriangle n.points (prices_of n es) t → HasSide t u v
+pub share-high : (n : NetworkParts) (es : List PriceEntry) (t : Tri) (u v : ℕ) → AreEntriesOf n es → IsLiveTriangle n.points (prices_of n es) t → HasSide t u v
     → share n.points n.hull (prices_of n es) u v ≤ℤ pos (1003 * 10 ^ 15)
 share-high n es t u v b over side =
     let k = side_number n es t u v b.one_each over side in
@@ -31,14 +31,14 @@ share-high n es t u v b over side =
     (cases_lt u v)
 
 -- the slack of a triangle beside the share of a side
-pub slack-beside : (n : NetworkParts) (es : List Entry) (t : Tri) (u v : ℕ) → AreEntriesOf n es → IsLiveTriangle n.points (prices_of n es) t → HasSide t u v
+pub slack-beside : (n : NetworkParts) (es : List PriceEntry) (t : Tri) (u v : ℕ) → AreEntriesOf n es → IsLiveTriangle n.points (prices_of n es) t → HasSide t u v
     → slack n.points n.hull (prices_of n es) t ≤ℤ (share n.points n.hull (prices_of n es) u v +ℤ pos (2006 * 10 ^ 15))
 slack-beside n es t u v b over side =
     let all = sum-beside (share n.points n.hull (prices_of n es)) t u v (pos (1003 * 10 ^ 15)) (λ x y s. share-high n es t x y b over s) side in
     omega (arith, ints, all)
 
 -- the least slack of live triangles
-pub least_fits : (n : NetworkParts) (es : List Entry) (u v : ℕ) (m : ℤ) → AreEntriesOf n es → IsFeasible n.points n.hull (prices_of n es) → IsLeastSlack n.points n.hull (prices_of n es) u v m
+pub least_fits : (n : NetworkParts) (es : List PriceEntry) (u v : ℕ) (m : ℤ) → AreEntriesOf n es → IsFeasible n.points n.hull (prices_of n es) → IsLeastSlack n.points n.hull (prices_of n es) u v m
     → IsSlack m
 least_fits n es u v m b feasible least =
     ⊎_elim

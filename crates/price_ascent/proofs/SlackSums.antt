@@ -4,13 +4,13 @@ use Rattle.std.proofs.lemmas.Bool.{cases_lt, cond-false, cond-true, le-ltb, lt-l
 use Rattle.lmt_network.specs.Network.{NetworkParts, edge_at, tri_at}
 use Rattle.lmt_network.specs.Numbers.{IsNumberOf}
 use Rattle.lmt_network.specs.Prices.{share}
-use Rattle.price_ascent.specs.declared.entry.Entry.{Entry}
+use Rattle.price_ascent.specs.declared.entry.PriceEntry.{PriceEntry}
 use Rattle.price_ascent.specs.Belonging.{AreEntriesOf}
 use Rattle.price_ascent.specs.Entries.{entry, prices_of}
 use Rattle.price_ascent.specs.Steps.{AreSidesLive, slack_at}
 
 -- the share of a side that goes up
-pub share-up_kept : (n : NetworkParts) (es : List Entry) (e u v : ℕ) → AreEntriesOf n es → (entry es e).live ≡ true → IsNumberOf n u v e → u < v
+pub share-up_kept : (n : NetworkParts) (es : List PriceEntry) (e u v : ℕ) → AreEntriesOf n es → (entry es e).live ≡ true → IsNumberOf n u v e → u < v
     → (entry es e).up ≡ share n.points n.hull (prices_of n es) u v
 share-up_kept n es e u v b live is l =
     let s = share n.points n.hull (prices_of n es) in
@@ -19,7 +19,7 @@ share-up_kept n es e u v b live is l =
     (b.each e is.0).up live ∙ (ap (λ x. s x (edge_at n e).b) low ∙ ap (λ y. s u y) high)
 
 -- and of one that goes down
-pub share-down_kept : (n : NetworkParts) (es : List Entry) (e u v : ℕ) → AreEntriesOf n es → (entry es e).live ≡ true → IsNumberOf n u v e → v < u
+pub share-down_kept : (n : NetworkParts) (es : List PriceEntry) (e u v : ℕ) → AreEntriesOf n es → (entry es e).live ≡ true → IsNumberOf n u v e → v < u
     → (entry es e).down ≡ share n.points n.hull (prices_of n es) u v
 share-down_kept n es e u v b live is l =
     let s = share n.points n.hull (prices_of n es) in
@@ -28,7 +28,7 @@ share-down_kept n es e u v b live is l =
     (b.each e is.0).down live ∙ (ap (λ x. s (edge_at n e).b x) low ∙ ap (λ y. s y v) high)
 
 -- the slack of a triangle whose sides have these numbers
-pub slack-kept : (n : NetworkParts) (es : List Entry) (t i j k : ℕ) → AreEntriesOf n es → AreSidesLive n es t
+pub slack-kept : (n : NetworkParts) (es : List PriceEntry) (t i j k : ℕ) → AreEntriesOf n es → AreSidesLive n es t
     → IsNumberOf n (tri_at n t).a (tri_at n t).b i → IsNumberOf n (tri_at n t).b (tri_at n t).c j → IsNumberOf n (tri_at n t).c (tri_at n t).a k
     → slack_at n es t ≡ (entry es i).up +ℤ (cond (nat_lt (tri_at n t).b (tri_at n t).c) (entry es j).up (entry es j).down +ℤ (entry es k).down)
 slack-kept n es t i j k b live ab bc ca =

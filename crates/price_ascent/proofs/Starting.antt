@@ -9,7 +9,7 @@ use Rattle.lmt_network.specs.Network.{IsNetwork, NetworkParts, edge_at}
 use Rattle.lmt_network.specs.Numbers.{HasSide, IsHullNumber}
 use Rattle.lmt_network.specs.Prices.{IsLiveTriangle, share}
 use Rattle.lmt_network.proofs.Picked.{flag_in}
-use Rattle.price_ascent.specs.declared.entry.Entry.{Entry}
+use Rattle.price_ascent.specs.declared.entry.PriceEntry.{PriceEntry}
 use Rattle.price_ascent.specs.Ascent.{IsStart}
 use Rattle.price_ascent.specs.Belonging.{BelongTo}
 use Rattle.price_ascent.specs.Entries.{entry, live_of, no_entry, prices_of, table_of}
@@ -22,7 +22,7 @@ use Rattle.price_ascent.proofs.RaisingHull.{hull_on}
 use Rattle.price_ascent.proofs.Shares.{has_shares, on_hull, weight_of}
 
 -- What is kept at the start.
-pub record AreFirst (n : NetworkParts) (flags : List Bool) (es : List Entry) : Type 0 where
+pub record AreFirst (n : NetworkParts) (flags : List Bool) (es : List PriceEntry) : Type 0 where
   pub network : IsNetwork n
   pub one_each : length es ≡ length n.edges
   pub flag_each : length flags ≡ length n.edges
@@ -30,29 +30,29 @@ pub record AreFirst (n : NetworkParts) (flags : List Bool) (es : List Entry) : T
   pub light : (e : ℕ) → e < length n.edges → get_or flags e false ≡ true → weight n.points ((edge_at n e).a, (edge_at n e).b) < 3 * 10 ^ 15
   pub hull_live : (e : ℕ) → e < length n.edges → IsHullNumber n e → get_or flags e false ≡ true
 
-start_dead : (n : NetworkParts) (flags : List Bool) (es : List Entry) (e : ℕ) → AreFirst n flags es → e < length n.edges → get_or flags e false ≡ false → entry es e ≡ no_entry
+start_dead : (n : NetworkParts) (flags : List Bool) (es : List PriceEntry) (e : ℕ) → AreFirst n flags es → e < length n.edges → get_or flags e false ≡ false → entry es e ≡ no_entry
 start_dead n flags es e a e_in dead = a.each e e_in ∙ cond-false (get_or flags e false) _ _ dead
 
-start_hull : (n : NetworkParts) (flags : List Bool) (es : List Entry) (e : ℕ) → AreFirst n flags es → e < length n.edges → get_or flags e false ≡ true → on_hull n e ≡ true → entry es e ≡ first_entry (weight_of n e) true
+start_hull : (n : NetworkParts) (flags : List Bool) (es : List PriceEntry) (e : ℕ) → AreFirst n flags es → e < length n.edges → get_or flags e false ≡ true → on_hull n e ≡ true → entry es e ≡ first_entry (weight_of n e) true
 start_hull n flags es e a e_in live on = a.each e e_in ∙ (cond-true (get_or flags e false) _ _ live ∙ ap (first_entry (weight_of n e)) on)
 
-start_inner : (n : NetworkParts) (flags : List Bool) (es : List Entry) (e : ℕ) → AreFirst n flags es → e < length n.edges → get_or flags e false ≡ true → on_hull n e ≡ false → entry es e ≡ first_entry (weight_of n e) false
+start_inner : (n : NetworkParts) (flags : List Bool) (es : List PriceEntry) (e : ℕ) → AreFirst n flags es → e < length n.edges → get_or flags e false ≡ true → on_hull n e ≡ false → entry es e ≡ first_entry (weight_of n e) false
 start_inner n flags es e a e_in live off = a.each e e_in ∙ (cond-true (get_or flags e false) _ _ live ∙ ap (first_entry (weight_of n e)) off)
 
 -- an entry is live where its flag is set
-entry-live : (n : NetworkParts) (flags : List Bool) (es : List Entry) (e : ℕ) → AreFirst n flags es → e < length n.edges → (entry es e).live ≡ get_or flags e false
+entry-live : (n : NetworkParts) (flags : List Bool) (es : List PriceEntry) (e : ℕ) → AreFirst n flags es → e < length n.edges → (entry es e).live ≡ get_or flags e false
 entry-live n flags es e a e_in =
     ⊎_elim
     (λ (on : get_or flags e false ≡ true). ⊎_elim
-    (λ h. ap (λ (p : Entry). p.live) (start_hull n flags es e a e_in on h) ∙ sym on)
-    (λ h. ap (λ (p : Entry). p.live) (start_inner n flags es e a e_in on h) ∙ sym on)
+    (λ h. ap (λ (p : PriceEntry). p.live) (start_hull n flags es e a e_in on h) ∙ sym on)
+    (λ h. ap (λ (p : PriceEntry). p.live) (start_inner n flags es e a e_in on h) ∙ sym on)
     (cases_Bool (on_hull n e)))
-    (λ (off : get_or flags e false ≡ false). ap (λ (p : Entry). p.live) (start_dead n flags es e a e_in off) ∙ sym off)
+    (λ (off : get_or flags e false ≡ false). ap (λ (p : PriceEntry). p.live) (start_dead n flags es e a e_in off) ∙ sym off)
     (cases_Bool (get_or flags e false))
 
-pub first_live : (n : NetworkParts) (flags : List Bool) (es : List Entry) → AreFirst n flags es → live_of es ≡ flags
+pub first_live : (n : NetworkParts) (flags : List Bool) (es : List PriceEntry) → AreFirst n flags es → live_of es ≡ flags
 first_live n flags es a =
-    let many = length-map es (λ (p : Entry). p.live) in
+    let many = length-map es (λ (p : PriceEntry). p.live) in
     let one = a.one_each in
     let flag = a.flag_each in
     same_lists (live_of es) flags (omega arith)
@@ -60,21 +60,21 @@ first_live n flags es a =
     get_or_default (live_of es) k d false l ∙ (live_at es k ∙ (entry-live n flags es k a k_in ∙ get_or_default flags k false d (omega arith))))
 
 -- none has anchors yet
-pub none_yet : (n : NetworkParts) (flags : List Bool) (es : List Entry) (e : ℕ) → AreFirst n flags es → (entry es e).anchored ≡ false
+pub none_yet : (n : NetworkParts) (flags : List Bool) (es : List PriceEntry) (e : ℕ) → AreFirst n flags es → (entry es e).anchored ≡ false
 none_yet n flags es e a =
     ⊎_elim
     (λ (e_in : e < length n.edges). ⊎_elim
     (λ (on : get_or flags e false ≡ true). ⊎_elim
-    (λ h. ap (λ (p : Entry). p.anchored) (start_hull n flags es e a e_in on h))
-    (λ h. ap (λ (p : Entry). p.anchored) (start_inner n flags es e a e_in on h))
+    (λ h. ap (λ (p : PriceEntry). p.anchored) (start_hull n flags es e a e_in on h))
+    (λ h. ap (λ (p : PriceEntry). p.anchored) (start_inner n flags es e a e_in on h))
     (cases_Bool (on_hull n e)))
-    (λ (off : get_or flags e false ≡ false). ap (λ (p : Entry). p.anchored) (start_dead n flags es e a e_in off))
+    (λ (off : get_or flags e false ≡ false). ap (λ (p : PriceEntry). p.anchored) (start_dead n flags es e a e_in off))
     (cases_Bool (get_or flags e false)))
-    (λ past. ap (λ (p : Entry). p.anchored) (get_or_past es e no_entry (let one = a.one_each in omega arith)))
+    (λ past. ap (λ (p : PriceEntry). p.anchored) (get_or_past es e no_entry (let one = a.one_each in omega arith)))
     (cases_lt e (length n.edges))
 
 -- both shares of a live edge at the start
-shares_first : (n : NetworkParts) (flags : List Bool) (es : List Entry) (e : ℕ) → AreFirst n flags es → e < length n.edges → (entry es e).live ≡ true
+shares_first : (n : NetworkParts) (flags : List Bool) (es : List PriceEntry) (e : ℕ) → AreFirst n flags es → e < length n.edges → (entry es e).live ≡ true
     → ((entry es e).up ≡ share n.points n.hull (prices_of n es) (edge_at n e).a (edge_at n e).b)
     × ((entry es e).down ≡ share n.points n.hull (prices_of n es) (edge_at n e).b (edge_at n e).a)
     × (pos 0 ≤ℤ (entry es e).up) × (pos 0 ≤ℤ (entry es e).down)
@@ -85,26 +85,26 @@ shares_first n flags es e a e_in live =
     ⊎_elim
     (λ on.
     let is = start_hull n flags es e a e_in flag on in
-    let value = ap (λ (p : Entry). p.value) is in
-    let up = ap (λ (p : Entry). p.up) is in
-    let down = ap (λ (p : Entry). p.down) is in
+    let value = ap (λ (p : PriceEntry). p.value) is in
+    let up = ap (λ (p : PriceEntry). p.up) is in
+    let down = ap (λ (p : PriceEntry). p.down) is in
     let s_up = h.on_up on in
     let s_down = h.on_down on in
     (omega (arith, ints, value, up, s_up), omega (arith, ints, value, down, s_down), omega (arith, ints, up), omega (arith, ints, down)))
     (λ off.
     let is = start_inner n flags es e a e_in flag off in
-    let value = ap (λ (p : Entry). p.value) is in
-    let left = ap (λ (p : Entry). p.left) is in
-    let right = ap (λ (p : Entry). p.right) is in
-    let up = ap (λ (p : Entry). p.up) is in
-    let down = ap (λ (p : Entry). p.down) is in
+    let value = ap (λ (p : PriceEntry). p.value) is in
+    let left = ap (λ (p : PriceEntry). p.left) is in
+    let right = ap (λ (p : PriceEntry). p.right) is in
+    let up = ap (λ (p : PriceEntry). p.up) is in
+    let down = ap (λ (p : PriceEntry). p.down) is in
     let s_up = h.off_up off in
     let s_down = h.off_down off in
     (omega (arith, ints, value, left, up, s_up), omega (arith, ints, value, right, down, s_down), omega (arith, ints, up), omega (arith, ints, down)))
     (cases_Bool (on_hull n e))
 
 -- so no share of a live triangle is negative
-share-first : (n : NetworkParts) (flags : List Bool) (es : List Entry) (t : Tri) (u v : ℕ) → AreFirst n flags es → IsLiveTriangle n.points (prices_of n es) t → HasSide t u v
+share-first : (n : NetworkParts) (flags : List Bool) (es : List PriceEntry) (t : Tri) (u v : ℕ) → AreFirst n flags es → IsLiveTriangle n.points (prices_of n es) t → HasSide t u v
     → pos 0 ≤ℤ share n.points n.hull (prices_of n es) u v
 share-first n flags es t u v a over side =
     let k = side_number n es t u v a.one_each over side in
@@ -118,7 +118,7 @@ share-first n flags es t u v a over side =
     (which_side n k.0 u v k.1)
 
 -- values and anchors at the start
-record IsSmall (n : NetworkParts) (e : ℕ) (p : Entry) : Type 0 where
+record IsSmall (n : NetworkParts) (e : ℕ) (p : PriceEntry) : Type 0 where
   value_low : pos 0 ≤ℤ p.value
   value_high : p.live ≡ true → p.value ≤ℤ pos (15 * 10 ^ 14)
   value_dead : p.live ≡ false → p.value ≡ pos 0
@@ -126,7 +126,7 @@ record IsSmall (n : NetworkParts) (e : ℕ) (p : Entry) : Type 0 where
   left : p.left ≡ pos 0
   right : p.right ≡ pos 0
 
-small_first : (n : NetworkParts) (flags : List Bool) (es : List Entry) (e : ℕ) → AreFirst n flags es → e < length n.edges → IsSmall n e (entry es e)
+small_first : (n : NetworkParts) (flags : List Bool) (es : List PriceEntry) (e : ℕ) → AreFirst n flags es → e < length n.edges → IsSmall n e (entry es e)
 small_first n flags es e a e_in =
     ⊎_elim
     (λ (flag : get_or flags e false ≡ true). ⊎_elim
@@ -157,7 +157,7 @@ small_first n flags es e a e_in =
     }))
     (cases_Bool (get_or flags e false))
 
-pub first_belong : (n : NetworkParts) (flags : List Bool) (es : List Entry) → AreFirst n flags es → BelongTo n es
+pub first_belong : (n : NetworkParts) (flags : List Bool) (es : List PriceEntry) → AreFirst n flags es → BelongTo n es
 first_belong n flags es a =
     record {
       entries = record {
@@ -205,24 +205,24 @@ first_belong n flags es a =
         ⊎_elim (λ live. s.value_high live) (λ dead. let zero = s.value_dead dead in omega (arith, ints, zero)) (cases_Bool (entry es e).live)
 
 -- and they are the start
-pub first_start : (n : NetworkParts) (flags : List Bool) (es : List Entry) → AreFirst n flags es → IsStart n flags (table_of es)
+pub first_start : (n : NetworkParts) (flags : List Bool) (es : List PriceEntry) → AreFirst n flags es → IsStart n flags (table_of es)
 first_start n flags es a =
     record {
-      one_each = length-map es (λ (p : Entry). p.value) ∙ a.one_each;
+      one_each = length-map es (λ (p : PriceEntry). p.value) ∙ a.one_each;
       prices = λ e inner.
           let e_in : e < length n.edges = let l = flag_in flags e inner.0 in let many = a.flag_each in omega arith in
-          get_or-mapped (λ (p : Entry). p.value) es e no_entry ∙ ap (λ (p : Entry). p.value) (start_inner n flags es e a e_in inner.0 (inner_off n e inner.1));
+          get_or-mapped (λ (p : PriceEntry). p.value) es e no_entry ∙ ap (λ (p : PriceEntry). p.value) (start_inner n flags es e a e_in inner.0 (inner_off n e inner.1));
       others = λ e out.
-          get_or-mapped (λ (p : Entry). p.value) es e no_entry ∙ ⊎_elim
+          get_or-mapped (λ (p : PriceEntry). p.value) es e no_entry ∙ ⊎_elim
           (λ (e_in : e < length n.edges). let s = small_first n flags es e a e_in in
           ⊎_elim (λ dead. s.value_dead (entry-live n flags es e a e_in ∙ dead)) (λ hull. s.value_hull (hull_on n e hull)) out)
-          (λ past. ap (λ (p : Entry). p.value) (get_or_past es e no_entry (let one = a.one_each in omega arith)))
+          (λ past. ap (λ (p : PriceEntry). p.value) (get_or_past es e no_entry (let one = a.one_each in omega arith)))
           (cases_lt e (length n.edges));
       lefts = zeros es (λ p. p.left) (length n.edges) a.one_each (λ k k_in. (small_first n flags es k a k_in).left);
       rights = zeros es (λ p. p.right) (length n.edges) a.one_each (λ k k_in. (small_first n flags es k a k_in).right);
     }
   where
-    zeros : (xs : List Entry) (f : Entry → ℤ) (m : ℕ) → length xs ≡ m → ((k : ℕ) → k < m → f (entry xs k) ≡ pos 0) → map f xs ≡ replicate m (pos 0)
+    zeros : (xs : List PriceEntry) (f : PriceEntry → ℤ) (m : ℕ) → length xs ≡ m → ((k : ℕ) → k < m → f (entry xs k) ≡ pos 0) → map f xs ≡ replicate m (pos 0)
     zeros xs f m many zero =
         let size = length-map xs f in
         same_lists (map f xs) (replicate m (pos 0)) (size ∙ (many ∙ sym (length-replicate m (pos 0))))

@@ -10,7 +10,7 @@ use Rattle.lmt_network.specs.Live.{IsHullEdge}
 use Rattle.lmt_network.specs.Network.{NetworkParts, edge_at}
 use Rattle.lmt_network.specs.Prices.{IsTight, IsTightSide, Priced, priced}
 use Rattle.lmt_network.proofs.Picked.{AllPairs-picked, Contains-cases, Contains-here, Contains-later, Contains-nil, picked_from}
-use Rattle.price_ascent.specs.declared.entry.Entry.{Entry}
+use Rattle.price_ascent.specs.declared.entry.PriceEntry.{PriceEntry}
 use Rattle.price_ascent.specs.Ascent.{IsTighten, both_sides}
 use Rattle.price_ascent.specs.Belonging.{AreEntriesOf, AreZeroWhereBare, IsBareSide}
 use Rattle.price_ascent.specs.Entries.{anchored_edges, entry, live_of, no_entry, prices_of, table_of}
@@ -24,35 +24,35 @@ use Rattle.price_ascent.proofs.OnceEach.{AreOffHull}
 use Rattle.price_ascent.proofs.Raised.{along_append}
 
 -- all sides of the hull, and then all inner ones
-pub record AreTightened (n : NetworkParts) (es fs gs : List Entry) : Type 0 where
+pub record AreTightened (n : NetworkParts) (es fs gs : List PriceEntry) : Type 0 where
   pub entries : AreEntriesOf n es
   pub bare : AreZeroWhereBare n es
   pub hull : AreRaised n es fs (ring_pairs n.hull) []
   pub inner : AreRaised n fs gs (flat_map both_sides (anchored_edges n fs)) []
 
 -- the number of an anchored edge
-pub anchored-number : (n : NetworkParts) (es : List Entry) (e : Edge) → Contains (anchored_edges n es) e → (k : ℕ) × (k < length n.edges) × (edge_at n k ≡ e) × ((entry es k).anchored ≡ true)
+pub anchored-number : (n : NetworkParts) (es : List PriceEntry) (e : Edge) → Contains (anchored_edges n es) e → (k : ℕ) × (k < length n.edges) × (edge_at n k ≡ e) × ((entry es k).anchored ≡ true)
 anchored-number n es e has =
     let r = picked_from (map (λ p. p.anchored) es) n.edges e has in
-    (r.0, r.1, get_or_default n.edges r.0 _ e r.1 ∙ r.3, sym (get_or-mapped (λ (p : Entry). p.anchored) es r.0 no_entry) ∙ r.2)
+    (r.0, r.1, get_or_default n.edges r.0 _ e r.1 ∙ r.3, sym (get_or-mapped (λ (p : PriceEntry). p.anchored) es r.0 no_entry) ∙ r.2)
 
 -- the table of prices that belong to a network has an entry an edge
-pub full_table : (n : NetworkParts) (es : List Entry) → AreEntriesOf n es → IsFull n (table_of es)
+pub full_table : (n : NetworkParts) (es : List PriceEntry) → AreEntriesOf n es → IsFull n (table_of es)
 full_table n es b =
     record {
-      values = length-map es (λ (p : Entry). p.value) ∙ b.one_each;
-      lefts = length-map es (λ (p : Entry). p.left) ∙ b.one_each;
-      rights = length-map es (λ (p : Entry). p.right) ∙ b.one_each;
+      values = length-map es (λ (p : PriceEntry). p.value) ∙ b.one_each;
+      lefts = length-map es (λ (p : PriceEntry). p.left) ∙ b.one_each;
+      rights = length-map es (λ (p : PriceEntry). p.right) ∙ b.one_each;
     }
 
 -- the anchored edges are off the hull
-off_hull : (n : NetworkParts) (es : List Entry) → AreEntriesOf n es → AreOffHull n.hull (anchored_edges n es)
+off_hull : (n : NetworkParts) (es : List PriceEntry) → AreEntriesOf n es → AreOffHull n.hull (anchored_edges n es)
 off_hull n es b f has hull =
     let k = anchored-number n es f has in
     ((b.each k.0 k.1).inner k.3).1 (subst (IsHullEdge n.hull) (sym k.2) hull)
 
 -- the sides are raised in their order
-pub tightened : (n : NetworkParts) (es fs gs : List Entry) → AreTightened n es fs gs → IsTighten n (live_of es) (anchored_edges n es) (table_of es) (table_of gs)
+pub tightened : (n : NetworkParts) (es fs gs : List PriceEntry) → AreTightened n es fs gs → IsTighten n (live_of es) (anchored_edges n es) (table_of es) (table_of gs)
 tightened n es fs gs r =
     let first = r.hull.along (table_of fs) refl in
     let second = r.inner.along (table_of gs) refl in
@@ -64,7 +64,7 @@ tightened n es fs gs r =
     (subst (λ (bs : List Bool). IsRaisedAlong n bs (flat_map both_sides (anchored_edges n fs)) (table_of fs) (table_of gs)) r.hull.live second)))
 
 -- a settled side whose anchor is 0 where no live triangle is on it
-tight_side : (n : NetworkParts) (es : List Entry) (u v : ℕ) (y : ℤ) → IsSettled n es u v → (IsBareSide n.points (prices_of n es) u v → y ≡ pos 0)
+tight_side : (n : NetworkParts) (es : List PriceEntry) (u v : ℕ) (y : ℤ) → IsSettled n es u v → (IsBareSide n.points (prices_of n es) u v → y ≡ pos 0)
     → IsTightSide n.points n.hull (prices_of n es) u v y
 tight_side n es u v y (inl (t, on, zero)) bare = inl (t, on.0, on.1, zero)
 tight_side n es u v y (inr none) bare = inr (λ t side over. none t (side, over), bare none)
@@ -90,26 +90,26 @@ right_among (x ∷ xs) e h =
     (Contains-cases x e xs h)
 
 -- the anchors of an anchored edge
-left_zero : (n : NetworkParts) (es : List Entry) (k : ℕ) → AreEntriesOf n es → AreZeroWhereBare n es → k < length n.edges → (entry es k).anchored ≡ true
+left_zero : (n : NetworkParts) (es : List PriceEntry) (k : ℕ) → AreEntriesOf n es → AreZeroWhereBare n es → k < length n.edges → (entry es k).anchored ≡ true
     → IsBareSide n.points (prices_of n es) (edge_at n k).a (edge_at n k).b → (priced (prices_of n es) (edge_at n k).a (edge_at n k).b).left ≡ pos 0
 left_zero n es k b z k_in anchored bare =
     let h = b.each k k_in in
     ap (λ (p : Priced). p.left) (priced-kept n es k _ _ b.network b.one_each (h.inner anchored).0 (k_in, Joins-ends (edge_at n k))) ∙ (z k k_in).left bare
 
-right_zero : (n : NetworkParts) (es : List Entry) (k : ℕ) → AreEntriesOf n es → AreZeroWhereBare n es → k < length n.edges → (entry es k).anchored ≡ true
+right_zero : (n : NetworkParts) (es : List PriceEntry) (k : ℕ) → AreEntriesOf n es → AreZeroWhereBare n es → k < length n.edges → (entry es k).anchored ≡ true
     → IsBareSide n.points (prices_of n es) (edge_at n k).b (edge_at n k).a → (priced (prices_of n es) (edge_at n k).a (edge_at n k).b).right ≡ pos 0
 right_zero n es k b z k_in anchored bare =
     let h = b.each k k_in in
     ap (λ (p : Priced). p.right) (priced-kept n es k _ _ b.network b.one_each (h.inner anchored).0 (k_in, Joins-ends (edge_at n k))) ∙ (z k k_in).right bare
 
-hull_zero : (n : NetworkParts) (es : List Entry) (u v : ℕ) → AreEntriesOf n es → AreZeroWhereBare n es → IsHullPair n.hull u v → IsBareSide n.points (prices_of n es) u v → (priced (prices_of n es) u v).value ≡ pos 0
+hull_zero : (n : NetworkParts) (es : List PriceEntry) (u v : ℕ) → AreEntriesOf n es → AreZeroWhereBare n es → IsHullPair n.hull u v → IsBareSide n.points (prices_of n es) u v → (priced (prices_of n es) u v).value ≡ pos 0
 hull_zero n es u v b z pair bare =
     let k = hull_number_there n u v b.network pair in
     let h = b.each k.0 k.1.0 in
     ap (λ (p : Priced). p.value) (priced-kept n es k.0 u v b.network b.one_each (h.hull_live (hull_of n k.0 u v k.1 pair)) k.1) ∙ (z k.0 k.1.0).hull u v k.1 pair bare
 
 -- the prices are tight
-pub tight : (n : NetworkParts) (es fs gs : List Entry) → AreTightened n es fs gs → IsTight n.points n.hull (anchored_edges n gs) (prices_of n gs)
+pub tight : (n : NetworkParts) (es fs gs : List PriceEntry) → AreTightened n es fs gs → IsTight n.points n.hull (anchored_edges n gs) (prices_of n gs)
 tight n es fs gs r =
     let b = r.inner.entries in
     let z = r.inner.bare (r.hull.bare r.bare) in

@@ -5,29 +5,29 @@ use Rattle.lmt_network.specs.Flags.{live_edges, live_numbers}
 use Rattle.lmt_network.specs.Network.{NetworkParts, edge_at}
 use Rattle.lmt_network.specs.PriceTables.{PriceTable, table_prices}
 use Rattle.lmt_network.specs.Prices.{Priced}
-use Rattle.price_ascent.specs.declared.entry.Entry.{Entry}
+use Rattle.price_ascent.specs.declared.entry.PriceEntry.{PriceEntry}
 
 -- what stands for an edge past the last
-abbrev pub no_entry : Entry
+abbrev pub no_entry : PriceEntry
 no_entry = record { value = pos 0; left = pos 0; right = pos 0; up = pos 0; down = pos 0; live = false; anchored = false }
 
 -- what is kept of the edge e
-abbrev pub entry : List Entry → ℕ → Entry
+abbrev pub entry : List PriceEntry → ℕ → PriceEntry
 entry es e = slice_index_or es e no_entry
 
-abbrev pub table_of : List Entry → PriceTable
+abbrev pub table_of : List PriceEntry → PriceTable
 table_of es = record { values = map (λ p. p.value) es; lefts = map (λ p. p.left) es; rights = map (λ p. p.right) es }
 
 -- which edges are live
-abbrev pub live_of : List Entry → List Bool
+abbrev pub live_of : List PriceEntry → List Bool
 live_of es = map (λ p. p.live) es
 
 -- the prices of the live edges
-abbrev pub prices_of : NetworkParts → List Entry → List Priced
+abbrev pub prices_of : NetworkParts → List PriceEntry → List Priced
 prices_of n es = table_prices n (table_of es) (live_numbers (live_of es))
 
 -- the inner edges with anchors, ascending
-abbrev pub anchored_edges : NetworkParts → List Entry → List Edge
+abbrev pub anchored_edges : NetworkParts → List PriceEntry → List Edge
 anchored_edges n es = live_edges n (map (λ p. p.anchored) es)
 
 -- the edge e with these amounts

@@ -7,7 +7,7 @@ use Rattle.lmt_network.specs.Flags.{live_numbers}
 use Rattle.lmt_network.specs.Numbers.{IsHullNumber, IsNumberOf}
 use Rattle.lmt_network.specs.PriceTables.{PriceTable, table_prices}
 use Rattle.lmt_network.specs.Prices.{IsFeasible, is_on_hull, slack}
-use Rattle.price_ascent.specs.declared.entry.Entry.{Entry}
+use Rattle.price_ascent.specs.declared.entry.PriceEntry.{PriceEntry}
 use Rattle.price_ascent.specs.Ascent.{IsLeastSlack, IsLiveOn, both_sides}
 use Rattle.price_ascent.specs.Belonging.{AreEntriesOf, AreZeroWhereBare, IsBareSide}
 use Rattle.price_ascent.specs.Entries.{entry, live_of, prices_of, table_of}
@@ -39,13 +39,13 @@ IsRaisedAlong n live [] old new = new ≡ old
 IsRaisedAlong n live (s ∷ sides) old new = (next : PriceTable) × IsRaisedNext n live old next s.0 s.1 × IsRaisedAlong n live sides next new
 
 -- some live triangle with the side u to v has no slack, or there is none
-abbrev pub IsSettled : NetworkParts → List Entry → ℕ → ℕ → Type 0
+abbrev pub IsSettled : NetworkParts → List PriceEntry → ℕ → ℕ → Type 0
 IsSettled n es u v =
     ((t : Tri) × IsLiveOn n.points (prices_of n es) u v t × (slack n.points n.hull (prices_of n es) t ≡ pos 0))
     ⊎ IsBareSide n.points (prices_of n es) u v
 
 -- Of the sides, all but the rest have been raised one after the other, from es to fs.
-pub record AreRaised (n : NetworkParts) (es fs : List Entry) (sides rest : List (ℕ × ℕ)) : Type 0 where
+pub record AreRaised (n : NetworkParts) (es fs : List PriceEntry) (sides rest : List (ℕ × ℕ)) : Type 0 where
   pub entries : AreEntriesOf n fs
   pub feasible : IsFeasible n.points n.hull (prices_of n fs)
   pub bare : AreZeroWhereBare n es → AreZeroWhereBare n fs
@@ -60,5 +60,5 @@ pub record AreRaised (n : NetworkParts) (es fs : List Entry) (sides rest : List 
   pub settled : (u v : ℕ) → Contains sides (u, v) → Contains rest (u, v) ⊎ IsSettled n fs u v
 
 -- the sides of the anchored inner edges from the edge e on
-abbrev pub sides_from : NetworkParts → List Entry → ℕ → List (ℕ × ℕ)
+abbrev pub sides_from : NetworkParts → List PriceEntry → ℕ → List (ℕ × ℕ)
 sides_from n es e = flat_map both_sides (items_where_true (drop e (map (λ p. p.anchored) es)) (drop e n.edges))

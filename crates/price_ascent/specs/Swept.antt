@@ -3,13 +3,13 @@ use Rattle.std.specs.Prelude.{◌≡◌, ◌⊎◌, ℕ, ◌<◌, false, List, d
 use Rattle.lmt_network.specs.Network.{NetworkParts}
 use Rattle.lmt_network.specs.Numbers.{IsHullNumber}
 use Rattle.lmt_network.specs.Prices.{IsFeasible}
-use Rattle.price_ascent.specs.declared.entry.Entry.{Entry}
+use Rattle.price_ascent.specs.declared.entry.PriceEntry.{PriceEntry}
 use Rattle.price_ascent.specs.Ascent.{IsInner, IsSwept}
 use Rattle.price_ascent.specs.Belonging.{AreEntriesOf}
 use Rattle.price_ascent.specs.Entries.{entry, live_of, prices_of, table_of}
 
 -- Of the edges, the first i have been swept, from es to fs.
-pub record AreSwept (n : NetworkParts) (es fs : List Entry) (i : ℕ) : Type 0 where
+pub record AreSwept (n : NetworkParts) (es fs : List PriceEntry) (i : ℕ) : Type 0 where
   pub entries : AreEntriesOf n fs
   pub feasible : IsFeasible n.points n.hull (prices_of n fs)
   pub live : live_of fs ≡ live_of es

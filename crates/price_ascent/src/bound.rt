@@ -11,7 +11,7 @@ ghost use Rattle.lmt_network.specs.Live.{IsLive};
 ghost use Rattle.lmt_network.specs.PriceTables.{entry_at};
 ghost use Rattle.lmt_network.specs.Prices.{ArePrices, IsFeasible, anchors_of, bound};
 ghost use Rattle.lmt_network.specs.Skeleton.{IsSkeletonEdge};
-ghost use Rattle.price_ascent.specs.Belonging.{AreEntriesOf, BelongTo, IsWithinLimits, most_raised};
+ghost use Rattle.price_ascent.specs.Belonging.{AreEntriesOf, BelongTo, HasNarrowRanges, most_raised};
 ghost use Rattle.price_ascent.specs.Entries.{anchored_edges, live_of, prices_of, table_of};
 
 use crate::prices::Prices;
@@ -42,7 +42,7 @@ impl Prices {
         ensures are_prices { ArePrices (anchored_edges net.now self.now) (prices_of net.now self.now) }
         ensures not_negative { BelongTo net.now self.now → pos 0 ≤ℤ result }
         ensures high { BelongTo net.now self.now → result ≤ℤ pos (2 * most_anchor * most_edges) }
-        ensures within { BelongTo net.now self.now → All (IsWithinLimits net.now.hull) (prices_of net.now self.now) }
+        ensures within { BelongTo net.now self.now → All (HasNarrowRanges net.now.hull) (prices_of net.now self.now) }
     {
         let mut sum = 0;
         for e in 0..net.edges() {

@@ -2,7 +2,7 @@
 
 /// What is kept of one edge of the network, in millionths.
 #[derive(Clone, Copy)]
-pub struct Entry {
+pub struct PriceEntry {
     /// The anchor of a hull edge, the price of another live edge, and 0 of a killed one.
     pub value: i64,
     /// The anchor of the side from the lesser end to the greater.

@@ -8,21 +8,21 @@ ghost use Rattle.price_ascent.specs.Ascent.{left_at, right_at, value_at};
 ghost use Rattle.price_ascent.specs.Belonging.{AreEntriesOf};
 ghost use Rattle.price_ascent.specs.Entries.{entry, live_of, prices_of, table_of};
 
-use crate::entry::Entry;
+use crate::entry::PriceEntry;
 use lmt_network::Network;
 use std::marker::Model;
 
 /// The prices and anchors of the live edges of a network, in millionths. Only `start` takes memory.
 #[derive(Drop)]
 pub struct Prices {
-    entries: Vec<Entry>,
+    entries: Vec<PriceEntry>,
 }
 
 impl Model for Prices {
     ghost use Rattle.std.specs.Prelude.{List, ◌<◌, ◌^◌, length};
-    ghost use Rattle.price_ascent.specs.declared.entry.Entry.{Entry};
+    ghost use Rattle.price_ascent.specs.declared.entry.PriceEntry.{PriceEntry};
 
-    ghost Value = { List Entry };
+    ghost Value = { List PriceEntry };
 
     ghost view = { λ p. p.entries.items };
 
@@ -75,7 +75,7 @@ impl Prices {
     }
 
     // The prices of which this is kept.
-    pub(crate) fn of(entries: Vec<Entry>) -> Prices
+    pub(crate) fn of(entries: Vec<PriceEntry>) -> Prices
         requires { length entries.items < 2 ^ 32 }
         ensures { result ≡ entries.items }
     {
@@ -83,7 +83,7 @@ impl Prices {
     }
 
     // What is kept of the edge.
-    pub(crate) fn at(&self, e: u32) -> Entry
+    pub(crate) fn at(&self, e: u32) -> PriceEntry
         requires { e < length self.now }
         ensures { result ≡ entry self.now e }
     {
@@ -91,7 +91,7 @@ impl Prices {
     }
 
     // Keeps this of the edge.
-    pub(crate) fn keep(&mut self, e: u32, kept: Entry)
+    pub(crate) fn keep(&mut self, e: u32, kept: PriceEntry)
         requires { e < length self.old }
         ensures { self.new ≡ slice_set self.old e kept }
     {

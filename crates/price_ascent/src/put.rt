@@ -6,7 +6,7 @@ ghost use Rattle.price_ascent.specs.Belonging.{AreEntriesOf, IsHullAnchor, IsSid
 ghost use Rattle.price_ascent.specs.Entries.{anchored_edges, live_of, table_of, with_amounts};
 ghost use Rattle.price_ascent.specs.Steps.{AreShares, repriced};
 
-use crate::entry::Entry;
+use crate::entry::PriceEntry;
 use crate::prices::Prices;
 use lmt_network::Network;
 
@@ -31,7 +31,7 @@ impl Prices {
 }
 
 // The entry with these amounts, of an edge of the hull or not, and the shares that they leave.
-fn repriced(kept: Entry, on_hull: bool, value: i64, left: i64, right: i64) -> Entry
+fn repriced(kept: PriceEntry, on_hull: bool, value: i64, left: i64, right: i64) -> PriceEntry
     requires shares { AreShares kept }
     requires kept_value { IsHullAnchor kept.value }
     requires kept_left { IsSideAnchor kept.left }
@@ -48,7 +48,7 @@ fn repriced(kept: Entry, on_hull: bool, value: i64, left: i64, right: i64) -> En
     } else {
         value - right
     };
-    Entry {
+    PriceEntry {
         value,
         left,
         right,

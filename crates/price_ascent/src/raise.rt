@@ -8,7 +8,7 @@ ghost use Rattle.price_ascent.specs.Belonging.{AreEntriesOf, IsHullAnchor, IsSid
 ghost use Rattle.price_ascent.specs.Entries.{entry, prices_of};
 ghost use Rattle.price_ascent.specs.Steps.{AreShares, IsRaisedEntry, IsSlack, hull_raised, left_raised, right_raised};
 
-use crate::entry::Entry;
+use crate::entry::PriceEntry;
 use crate::number::number;
 use crate::prices::Prices;
 use lmt_network::Network;
@@ -64,13 +64,13 @@ fn side_row<'a>(net: &'a Network, e: u32, u: u32, v: u32) -> &'a [u32]
     if u < v { net.left(e) } else { net.right(e) }
 }
 
-fn hull_raised(kept: Entry, m: i64) -> Entry
+fn hull_raised(kept: PriceEntry, m: i64) -> PriceEntry
     requires anchor { IsHullAnchor kept.value }
     requires shares { AreShares kept }
     requires m { IsSlack m }
     ensures { result ≡ hull_raised kept m }
 {
-    Entry {
+    PriceEntry {
         value: kept.value + m,
         up: kept.up - m,
         down: kept.down - m,
@@ -78,26 +78,26 @@ fn hull_raised(kept: Entry, m: i64) -> Entry
     }
 }
 
-fn left_raised(kept: Entry, m: i64) -> Entry
+fn left_raised(kept: PriceEntry, m: i64) -> PriceEntry
     requires anchor { IsSideAnchor kept.left }
     requires shares { AreShares kept }
     requires m { IsSlack m }
     ensures { result ≡ left_raised kept m }
 {
-    Entry {
+    PriceEntry {
         left: kept.left + m,
         up: kept.up - m,
         ..kept
     }
 }
 
-fn right_raised(kept: Entry, m: i64) -> Entry
+fn right_raised(kept: PriceEntry, m: i64) -> PriceEntry
     requires anchor { IsSideAnchor kept.right }
     requires shares { AreShares kept }
     requires m { IsSlack m }
     ensures { result ≡ right_raised kept m }
 {
-    Entry {
+    PriceEntry {
         right: kept.right + m,
         down: kept.down - m,
         ..kept

@@ -12,7 +12,7 @@ ghost use Rattle.price_ascent.specs.Belonging.{BelongTo};
 ghost use Rattle.price_ascent.specs.Entries.{anchored_edges, entry, live_of, prices_of, table_of};
 ghost use Rattle.price_ascent.specs.Steps.{anchored, start_entry};
 
-use crate::entry::Entry;
+use crate::entry::PriceEntry;
 use crate::number::number;
 use crate::prices::Prices;
 use exact_predicates::Edges;
@@ -79,17 +79,17 @@ impl Prices {
 }
 
 // The entry with anchors for its sides.
-fn anchored(kept: Entry) -> Entry
+fn anchored(kept: PriceEntry) -> PriceEntry
     ensures { result ≡ anchored kept }
 {
-    Entry {
+    PriceEntry {
         anchored: true,
         ..kept
     }
 }
 
 // What is kept of each edge at the start.
-fn first_entries(alloc: Global, net: &Network, flags: &Flags) -> Result<Vec<Entry>, AllocError>
+fn first_entries(alloc: Global, net: &Network, flags: &Flags) -> Result<Vec<PriceEntry>, AllocError>
     requires { length flags.now ≡ length net.now.edges }
     ensures one_each { IfOk result (λ entries. length entries.items ≡ length net.now.edges) }
     ensures each { IfOk result (λ entries.
@@ -107,7 +107,7 @@ fn first_entries(alloc: Global, net: &Network, flags: &Flags) -> Result<Vec<Entr
 }
 
 // What is kept of the edge at the start.
-fn first_entry(net: &Network, flags: &Flags, e: u32) -> Entry
+fn first_entry(net: &Network, flags: &Flags, e: u32) -> PriceEntry
     requires one_each { length flags.now ≡ length net.now.edges }
     requires e_in { e < length net.now.edges }
     ensures value { result ≡ start_entry net.now flags.now e }
@@ -126,13 +126,13 @@ fn first_entry(net: &Network, flags: &Flags, e: u32) -> Entry
 }
 
 // What is kept of an edge without anchors.
-fn edge_entry(live: bool, value: u64, up: u64, down: u64) -> Entry
+fn edge_entry(live: bool, value: u64, up: u64, down: u64) -> PriceEntry
     requires value { value < 2 ^ 63 }
     requires up { up < 2 ^ 63 }
     requires down { down < 2 ^ 63 }
     ensures { result ≡ record { value = pos value; left = pos 0; right = pos 0; up = pos up; down = pos down; live = live; anchored = false } }
 {
-    Entry {
+    PriceEntry {
         value: value as i64,
         left: 0,
         right: 0,

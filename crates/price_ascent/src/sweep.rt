@@ -8,7 +8,7 @@ ghost use Rattle.price_ascent.specs.Entries.{anchored_edges, entry, live_of, pri
 ghost use Rattle.price_ascent.specs.Steps.{AreShares, IsLowered, IsSlack, lowered};
 ghost use Rattle.price_ascent.specs.Swept.{AreSwept};
 
-use crate::entry::Entry;
+use crate::entry::PriceEntry;
 use crate::prices::Prices;
 use lmt_network::{Flags, Network};
 
@@ -78,7 +78,7 @@ impl Prices {
 }
 
 // The entry with its price lowered by m, but not below the lowest.
-fn lowered(kept: Entry, m: i64) -> Entry
+fn lowered(kept: PriceEntry, m: i64) -> PriceEntry
     requires price { IsPrice kept.value }
     requires shares { AreShares kept }
     requires m { IsSlack m }
@@ -86,7 +86,7 @@ fn lowered(kept: Entry, m: i64) -> Entry
 {
     let value = (kept.value - m).max(LOWEST);
     let fall = kept.value - value;
-    Entry {
+    PriceEntry {
         value,
         up: kept.up + fall,
         down: kept.down - fall,

@@ -9,7 +9,7 @@ use Rattle.lmt_network.specs.Derivation.{IsDerivation}
 use Rattle.lmt_network.specs.Network.{NetworkParts}
 use Rattle.ticket_marks.specs.declared.view.Known.{Known}
 use Rattle.ticket_marks.specs.declared.view.About.{About}
-use Rattle.ticket_marks.specs.Rule.{weight, ViewHolds, total, tries, splits_of, TicketsHold}
+use Rattle.ticket_marks.specs.Rule.{one_if, ViewHolds, total, tries, splits_of, TicketsHold}
 use Rattle.ticket_marks.specs.Words.{issued}
 use Rattle.ticket_marks.proofs.Members.{distinct_length}
 use Rattle.ticket_marks.proofs.Totals.{total_set, total_at_most}
@@ -63,7 +63,7 @@ module _ (k : About) where
         (at_set s.views id j w e h);
     tickets = let t = total_set tries s.views id d w at in let o = m.tickets in omega arith;
     seated = let t = total_set splits_of s.views id d w at in let l = length-set s.views id w in let h = r.seated in omega arith;
-    noted = λ j e h. let p = was s.views id d w at a b c j e h in let q = r.noted j p.from p.at in let q₀ = q.0 in let p₁ = p.slot in let p₂ = p.splits in let p₃ = ap weight p.noted in
+    noted = λ j e h. let p = was s.views id d w at a b c j e h in let q = r.noted j p.from p.at in let q₀ = q.0 in let p₁ = p.slot in let p₂ = p.splits in let p₃ = ap one_if p.noted in
         let first : e.slot + e.splits < k.seats = omega arith in (first, λ i lo hi. q.1 i (omega arith) (omega arith));
     apart = λ i j x y n h₁ h₂. let p = was s.views id d w at a b c i x h₁ in let q = was s.views id d w at a b c j y h₂ in let p₁ = p.slot in let p₂ = p.splits in let q₁ = q.slot in let q₂ = q.splits in
         ⊎_elim

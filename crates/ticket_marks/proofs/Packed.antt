@@ -4,7 +4,7 @@ use mathlib.Core.Logic.{dite}
 use native.Mathlib.Decide.{ℕ_discrete}
 use Rattle.std.specs.Int.{bit_at}
 use Rattle.std.proofs.lemmas.Nat.Bits.{bit_at_or, bit_at-pow_same, bit_at-pow_other, bit_at-lt, bit_at-zero}
-use Rattle.ticket_marks.specs.Rule.{weight}
+use Rattle.ticket_marks.specs.Rule.{one_if}
 use Rattle.ticket_marks.specs.Words.{bit_of}
 
 -- the bits with that of e set
@@ -22,7 +22,7 @@ bit_else bits e f low other = let w : ℕ = get_or bits (e / 64) 0 in let k : �
     ∙ (bit_at_or w (2 ^ k) j ∙ (ap (max (bit_at w j)) (bit_at-pow_other k j apart) ∙ (m ∙ ap (λ (i : ℕ). bit_at (get_or bits i 0) j) (sym same))))))
     (λ ne. ap (λ (n : ℕ). bit_at n j) (get_or-set_other bits (e / 64) (f / 64) (bit_or w (2 ^ k)) 0 ne))
 
-pub weight_one : (b : Bool) → weight b ≡ 1 → b ≡ true
+pub weight_one : (b : Bool) → one_if b ≡ 1 → b ≡ true
 weight_one true h = refl
 weight_one false h = absurd (omega arith)
 

@@ -10,7 +10,7 @@ use Rattle.lmt_network.specs.Network.{NetworkParts}
 use Rattle.lmt_network.proofs.Picked.{Contains-nil}
 use Rattle.ticket_marks.specs.declared.view.Known.{Known}
 use Rattle.ticket_marks.specs.declared.view.About.{About}
-use Rattle.ticket_marks.specs.Rule.{first_view, weight, ViewHolds, tries, splits_of, TicketsHold}
+use Rattle.ticket_marks.specs.Rule.{first_view, one_if, ViewHolds, tries, splits_of, TicketsHold}
 use Rattle.ticket_marks.specs.Plays.{Sitting, noted_view, took_note, left_view, right_view}
 use Rattle.ticket_marks.proofs.Apart.{AreApart, apart_set, apart_last}
 use Rattle.ticket_marks.proofs.Kept.{net}
@@ -18,13 +18,13 @@ use Rattle.ticket_marks.proofs.Totals.{total_set, total_last}
 
 -- the slots of a view: its own last one is below `seats`, and those at home
 abbrev HasNotes : ℕ → List (maybe.Option ℕ) → Known → Type 0
-HasNotes seats homes d = (d.slot + d.splits < seats) × ((i : ℕ) → d.slot + weight d.noted ≤ i → i ≤ d.slot + d.splits → (y : ℕ) × (get_elem? homes (i * 32) ≡ some (some y)))
+HasNotes seats homes d = (d.slot + d.splits < seats) × ((i : ℕ) → d.slot + one_if d.noted ≤ i → i ≤ d.slot + d.splits → (y : ℕ) × (get_elem? homes (i * 32) ≡ some (some y)))
 
 at_only : (v d : Known) (i : ℕ) → get_elem? (v ∷ []) i ≡ some d → i ≡ 0
 at_only v d zero h = refl
 at_only v d (suc i) h = absurd (some-ne-none d (sym h))
 
-weight_most : (b : Bool) → weight b ≤ 1
+weight_most : (b : Bool) → one_if b ≤ 1
 weight_most true = omega arith
 weight_most false = omega arith
 
@@ -52,7 +52,7 @@ module _ (k : About) where
       }
 
   pub notes : (slots id : ℕ) (me : Sitting) → me.1 ≡ [] → me.0.noted ≡ false → Allows (TicketsHold k) slots id me 0 (λ x. x) (took_note (step slots 0 0 0 none) me)
-  notes slots id me bare new s r _ at fits = let n : NetworkParts = net k in let d : Known = me.0 in let v = r.each id d at in let w : Known = noted_view d in let z = ap weight new in let mine = r.noted id d at in let home = mine.1 d.slot (omega arith) (omega arith) in
+  notes slots id me bare new s r _ at fits = let n : NetworkParts = net k in let d : Known = me.0 in let v = r.each id d at in let w : Known = noted_view d in let z = ap one_if new in let mine = r.noted id d at in let home = mine.1 d.slot (omega arith) (omega arith) in
       let hs : List (maybe.Option ℕ) = set s.homes (d.slot * 32) none in (
         w,
         takes (d.slot * 32) home.0,

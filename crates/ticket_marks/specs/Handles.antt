@@ -6,7 +6,7 @@ use Rattle.lmt_network.specs.Network.{NetworkParts}
 use Rattle.ticket_marks.specs.declared.view.Drawn.TheVariants.{NoTicket}
 use Rattle.ticket_marks.specs.declared.view.Known.{Known}
 use Rattle.ticket_marks.specs.Words.{bit_of, bit_words}
-use Rattle.ticket_marks.specs.Rule.{weight}
+use Rattle.ticket_marks.specs.Rule.{one_if}
 
 -- a seat: the table that it belongs to, its number there, and what it knows
 pub record SeatView : Type 0 where
@@ -47,6 +47,6 @@ pub record IsSeated (known : Known) (carried : List (ℕ × ℕ)) (slot : ℕ) (
   pub idle : known.drawn ≡ NoTicket
   pub splits : known.splits ≡ length spare
   pub wide : length bits ≡ bit_words known.net
-  pub bits_are : (e : ℕ) → e < length known.net.edges → bit_of bits e ≡ weight (has_number e known.tried)
+  pub bits_are : (e : ℕ) → e < length known.net.edges → bit_of bits e ≡ one_if (has_number e known.tried)
   pub blank : All (λ row. row.items ≡ replicate (bit_words known.net) 0) spare
   pub few : slot + known.splits ≤ 64

@@ -42,9 +42,9 @@ DrawnHolds n count seen tried NoTicket = Unit {0}
 DrawnHolds n count seen tried (Ticket e t) =
     (t < count) × (e < length n.edges) × (¬ IsHullNumber n e) × Contains tried e × IsBrokenUpTo n seen e t
 
-abbrev pub weight : Bool → ℕ
-weight false = 0
-weight true = 1
+abbrev pub one_if : Bool → ℕ
+one_if false = 0
+one_if true = 1
 
 -- What the rule says of one view.
 pub record ViewHolds (n : NetworkParts) (ws : List ℕ) (d : Known) : Type 0 where
@@ -82,6 +82,6 @@ pub record TicketsHold (k : About) (s : State ℕ Known) : Type 0 where
   pub seated : length s.views + total splits_of s.views ≡ k.seats
   -- the notes of the seats that a seat may split off are at home, and its own is until it takes it
   pub noted : (j : ℕ) (d : Known) → get_elem? s.views j ≡ some d → (d.slot + d.splits < k.seats)
-      × ((i : ℕ) → d.slot + weight d.noted ≤ i → i ≤ d.slot + d.splits → (y : ℕ) × (get_elem? s.homes (i * 32) ≡ some (some y)))
+      × ((i : ℕ) → d.slot + one_if d.noted ≤ i → i ≤ d.slot + d.splits → (y : ℕ) × (get_elem? s.homes (i * 32) ≡ some (some y)))
   -- the notes of different seats are apart
   pub apart : (i j : ℕ) (d e : Known) → i ≢ j → get_elem? s.views i ≡ some d → get_elem? s.views j ≡ some e → (d.slot + d.splits < e.slot) ⊎ (e.slot + e.splits < d.slot)

@@ -68,7 +68,7 @@ fn rank_unsupported(net: &Network, ranks: &mut Ranks, last: u64, downwards: bool
 /// Goes on with plain elimination: each edge without a support gets a rank, one above all ranks so far, until
 /// each edge with the rank 0 is a hull edge or has a support among those with the rank 0. These edges are
 /// then the live list. Ranks above 0 stand. Takes no memory. After Dickerson and Montague, "A (usually?)
-/// connected subgraph of the minimum weight triangulation" (1996).
+/// connected subgraph of the minimum one_if triangulation" (1996).
 pub fn finish(net: &Network, ranks: &mut Ranks)
     requires one_each { length ranks.old ≡ length net.now.edges }
     requires derivation { IsDerivation net.now ranks.old }

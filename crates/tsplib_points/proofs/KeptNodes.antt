@@ -7,7 +7,7 @@ use Rattle.std.specs.BTreeMap.{is_at}
 use Rattle.std.proofs.lemmas.Bool.{or_right}
 use Rattle.std.proofs.lemmas.Bool.Decides.{nat_tests}
 use Rattle.tsplib_points.specs.declared.node.KeptNode.{KeptNode}
-use Rattle.tsplib_points.specs.declared.gather.Pass.{Pass}
+use Rattle.tsplib_points.specs.declared.gather.LinePass.{LinePass}
 use Rattle.tsplib_points.specs.declared.reason.Reason.TheVariants.{RepeatedId}
 use Rattle.tsplib_points.specs.Lines.{Line}
 use Rattle.tsplib_points.specs.Nodes.{Node, nodes, node_reason, has_number}
@@ -30,7 +30,7 @@ more_numbers old new kept n k h q =
       either false b = sym (or_false b)
 
 -- a node is judged by its number, where its coordinates are kept
-pub node_judged : (pass : Pass) (before : List Line) (kept : KeptNode) (n : Node) (b : Bool) → IsPassed pass before → KeepsNode kept n → contains nat_cmp pass.numbers kept.number ≡ b
+pub node_judged : (pass : LinePass) (before : List Line) (kept : KeptNode) (n : Node) (b : Bool) → IsPassed pass before → KeepsNode kept n → contains nat_cmp pass.numbers kept.number ≡ b
     → node_reason (nodes before) (Some n) ≡ cond b (Some RepeatedId) None
 node_judged pass before kept n b h k found =
     let repeated : list_any (has_number n.number) (nodes before) ≡ b = ap (λ m. list_any (has_number m) (nodes before)) (sym k.number) ∙ sym (h.numbers kept.number) ∙ found in

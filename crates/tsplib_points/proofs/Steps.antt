@@ -6,7 +6,7 @@ use Rattle.std.specs.BTreeSet.{contains}
 use Rattle.std.proofs.lemmas.Bool.{cases_Bool, and_right, and_parts}
 use Rattle.std.proofs.lemmas.Slice.Eq.{bytes_eq-Decides}
 use Rattle.tsplib_points.specs.declared.node.KeptNode.{KeptNode}
-use Rattle.tsplib_points.specs.declared.gather.Pass.{Pass}
+use Rattle.tsplib_points.specs.declared.gather.LinePass.{LinePass}
 use Rattle.tsplib_points.specs.declared.reason.Reason.TheVariants.{AfterEnd}
 use Rattle.tsplib_points.specs.Lines.{Line, is_blank, is_empty, trim_front, trim_back, trim, words}
 use Rattle.tsplib_points.specs.Numbers.{small_number}
@@ -96,7 +96,7 @@ unfolding line_reason
 reason_section before l b e s i = rw (b, e, s, i) refl
 
 -- in the header it is known whether a DIMENSION came
-pub dimension_known : (pass : Pass) (before : List Line) → IsPassed pass before → pass.has_end ≡ false → pass.found.has_section ≡ false → list_any is_dimension before ≡ is_some pass.found.dimension
+pub dimension_known : (pass : LinePass) (before : List Line) → IsPassed pass before → pass.has_end ≡ false → pass.found.has_section ≡ false → list_any is_dimension before ≡ is_some pass.found.dimension
 dimension_known pass before h e s = ap (list_any is_dimension) (sym (header_open before (sym h.end ∙ e) (sym h.section ∙ s))) ∙ sym h.some_told
 
 -- what a test of bytes says
@@ -111,7 +111,7 @@ end_no_section p h =
     rw word refl
 
 -- before the first line
-pub passes_none : (pass : Pass) → pass.has_end ≡ false → pass.found.has_section ≡ false → pass.found.dimension ≡ None → pass.found.nodes.items ≡ [] → pass.numbers.keys ≡ []
+pub passes_none : (pass : LinePass) → pass.has_end ≡ false → pass.found.has_section ≡ false → pass.found.dimension ≡ None → pass.found.nodes.items ≡ [] → pass.numbers.keys ≡ []
     → IsPassed pass []
 unfolding dimension header_lines lines_to_end nodes section_lines
 passes_none pass e s d n k = record {
@@ -124,7 +124,7 @@ passes_none pass e s d n k = record {
 }
 
 -- behind a line that is nothing
-pub passes_nothing : (pass : Pass) (before : List Line) (l : Line) → IsPassed pass before → IsNothing l → IsPassed pass (before ++ l ∷ [])
+pub passes_nothing : (pass : LinePass) (before : List Line) (l : Line) → IsPassed pass before → IsNothing l → IsPassed pass (before ++ l ∷ [])
 passes_nothing pass before l h n = record {
   end = h.end ∙ sym (any_push_no is_end before l n.end);
   section = h.section ∙ sym (any_push_no is_section before l n.section);
@@ -135,7 +135,7 @@ passes_nothing pass before l h n = record {
 }
 
 -- after EOF
-pub passes_end : (pass : Pass) (before : List Line) (l : Line) → IsPassed pass before → is_end_mark (parts_of l.text) ≡ true
+pub passes_end : (pass : LinePass) (before : List Line) (l : Line) → IsPassed pass before → is_end_mark (parts_of l.text) ≡ true
     → IsPassed (record { found = pass.found; has_end = true; numbers = pass.numbers }) (before ++ l ∷ [])
 unfolding is_end is_section
 passes_end pass before l h i =
@@ -151,7 +151,7 @@ passes_end pass before l h i =
     }
 
 -- after NODE_COORD_SECTION
-pub passes_section : (pass : Pass) (before : List Line) (l : Line) → IsPassed pass before → pass.has_end ≡ false → pass.found.has_section ≡ false
+pub passes_section : (pass : LinePass) (before : List Line) (l : Line) → IsPassed pass before → pass.has_end ≡ false → pass.found.has_section ≡ false
     → is_end_mark (parts_of l.text) ≡ false → is_section_mark (parts_of l.text) ≡ true
     → IsPassed (record { found = record { has_section = true; dimension = pass.found.dimension; nodes = pass.found.nodes }; has_end = pass.has_end; numbers = pass.numbers }) (before ++ l ∷ [])
 unfolding is_end is_section
@@ -170,7 +170,7 @@ passes_section pass before l h e s i j =
     }
 
 -- after the first DIMENSION
-pub passes_dimension : (pass : Pass) (before : List Line) (l : Line) (n : ℕ) → IsPassed pass before → pass.has_end ≡ false → pass.found.has_section ≡ false
+pub passes_dimension : (pass : LinePass) (before : List Line) (l : Line) (n : ℕ) → IsPassed pass before → pass.has_end ≡ false → pass.found.has_section ≡ false
     → is_some pass.found.dimension ≡ false
     → is_end_mark (parts_of l.text) ≡ false → is_section_mark (parts_of l.text) ≡ false → is_dimension_entry (parts_of l.text) ≡ true → small_number (parts_of l.text).value ≡ Some n
     → IsPassed (record { found = record { has_section = pass.found.has_section; dimension = Some n; nodes = pass.found.nodes }; has_end = pass.has_end; numbers = pass.numbers }) (before ++ l ∷ [])
@@ -190,7 +190,7 @@ passes_dimension pass before l n h e s none i j d v =
     }
 
 -- behind another line of the header
-pub passes_entry : (pass : Pass) (before : List Line) (l : Line) → IsPassed pass before → pass.has_end ≡ false → pass.found.has_section ≡ false
+pub passes_entry : (pass : LinePass) (before : List Line) (l : Line) → IsPassed pass before → pass.has_end ≡ false → pass.found.has_section ≡ false
     → is_end_mark (parts_of l.text) ≡ false → is_section_mark (parts_of l.text) ≡ false → is_dimension_entry (parts_of l.text) ≡ false
     → IsPassed pass (before ++ l ∷ [])
 unfolding is_end is_section is_dimension
@@ -206,7 +206,7 @@ passes_entry pass before l h e s i j d =
     }
 
 -- behind a node line
-pub passes_node : (pass next : Pass) (before : List Line) (l : Line) (kept : KeptNode) (n : Node) → IsPassed pass before → pass.has_end ≡ false → pass.found.has_section ≡ true
+pub passes_node : (pass next : LinePass) (before : List Line) (l : Line) (kept : KeptNode) (n : Node) → IsPassed pass before → pass.has_end ≡ false → pass.found.has_section ≡ true
     → is_end_mark (parts_of l.text) ≡ false → node_of l ≡ Some n → KeepsNode kept n
     → next.has_end ≡ pass.has_end → next.found.has_section ≡ pass.found.has_section → next.found.dimension ≡ pass.found.dimension
     → next.found.nodes.items ≡ pass.found.nodes.items ++ kept ∷ []

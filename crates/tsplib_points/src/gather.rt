@@ -25,17 +25,17 @@ pub struct Gathered {
 
 /// What is known of the lines that a pass has gone over, with the numbers of their nodes.
 #[derive(Drop)]
-pub struct Pass {
+pub struct LinePass {
     pub found: Gathered,
     pub has_end: bool,
     pub numbers: BTreeSet<u32>,
 }
 
-impl Pass {
-    fn new(alloc: Global) -> Pass
+impl LinePass {
+    fn new(alloc: Global) -> LinePass
         ensures { IsPassed result [] }
     {
-        Pass {
+        LinePass {
             found: Gathered {
                 has_section: false,
                 dimension: None,
@@ -116,7 +116,7 @@ pub fn gather(alloc: Global, bytes: &[u8]) -> Result<Gathered, FileStop>
     ensures fails { IfErr result (λ stop. (why : refusal_type) → stop ≡ FileStop.Refused why →
         first_failing [] (lines bytes.now) ≡ Some why) }
 {
-    let mut pass = Pass::new(alloc);
+    let mut pass = LinePass::new(alloc);
     let mut lines = Lines::of(bytes);
     let mut number = 0;
     while let Some(text) = lines.next() {

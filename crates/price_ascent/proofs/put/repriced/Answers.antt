@@ -1,7 +1,7 @@
 use Rattle.std.proofs.Common.{Bool, ◌≡◌, ◌*◌, ◌^◌, refl, sym, ◌∙◌, arith, to_z, of_z, w64, ℤ, pos, neg_ℤ, ◌+ℤ◌, ◌-ℤ◌, ◌≤ℤ◌}
 use Rattle.std.proofs.lemmas.Bool.{cond-false, cond-true}
 use Rattle.std.proofs.lemmas.Int.{ints}
-use Rattle.price_ascent.specs.declared.entry.Entry.{Entry}
+use Rattle.price_ascent.specs.declared.entry.PriceEntry.{PriceEntry}
 use Rattle.price_ascent.specs.Belonging.{IsHullAnchor, IsSideAnchor}
 use Rattle.price_ascent.specs.Steps.{AreShares, IsShare, repriced}
 use Rattle.price_ascent.proofs.Equal.{same_entry}
@@ -88,7 +88,7 @@ overflow_sub-up-2 c =
     omega (arith, ints, one, x0, x1, v0, v1, l0, l1)
 
 -- the entry, counted so, with this share of its right side
-abbrev counted : Entry → ℤ → ℤ → ℤ → ℤ → Entry
+abbrev counted : PriceEntry → ℤ → ℤ → ℤ → ℤ → PriceEntry
 counted p value left right down =
     record p {
       value = bits value;
@@ -98,7 +98,7 @@ counted p value left right down =
       down = down;
     }
 
-counted_is : (p : Entry) (on : Bool) (value left right down : ℤ) → AreShares p → IsHullAnchor p.value → IsSideAnchor p.left → IsHullAnchor value → IsSideAnchor left → IsSideAnchor right
+counted_is : (p : PriceEntry) (on : Bool) (value left right down : ℤ) → AreShares p → IsHullAnchor p.value → IsSideAnchor p.left → IsHullAnchor value → IsSideAnchor left → IsSideAnchor right
     → down ≡ (repriced p on value left right).down → counted p value left right down ≡ repriced p on value left right
 counted_is p on value left right down shares kept_value kept_left v l r is =
     same_entry _ _ (value_is value v) (anchor_is left l) (anchor_is right r)

@@ -2,7 +2,7 @@ use Rattle.std.proofs.Common.{◌≡◌, ◌+◌, ◌*◌, ◌^◌, ◌<◌, tru
 use Rattle.std.proofs.lemmas.List.{get_or_append_left, get_or_push, length_push}
 use Rattle.length_enclosure.specs.Enclosure.{weight}
 use Rattle.lmt_network.specs.Network.{edge_at}
-use Rattle.price_ascent.specs.declared.entry.Entry.{Entry}
+use Rattle.price_ascent.specs.declared.entry.PriceEntry.{PriceEntry}
 use Rattle.price_ascent.specs.Entries.{entry, no_entry}
 use Rattle.price_ascent.specs.Steps.{start_entry}
 use Rattle.price_ascent.proofs.start.first_entries.Goals as goal
@@ -17,9 +17,9 @@ loop-e-preserved c =
     let items = c.in_ok-push.ensures.items in
     let many = c.loop-e.invariant.so_many in
     record {
-      so_many = ap (λ (ys : List Entry). length ys) items ∙ (length_push xs x ∙ ap (λ k. k + 1) many);
+      so_many = ap (λ (ys : List PriceEntry). length ys) items ∙ (length_push xs x ∙ ap (λ k. k + 1) many);
       each = below_more (λ k. entry c.push.new.self.items k ≡ start_entry n flags k) e
-          (λ k l. ap (λ (ys : List Entry). entry ys k) items ∙ (get_or_append_left xs (x ∷ []) no_entry k (omega (arith, l, many)) ∙ c.loop-e.invariant.each k l))
-          (ap (λ (ys : List Entry). entry ys e) items ∙ (get_or_push xs x no_entry e many ∙ c.first_entry.ensures.value));
+          (λ k l. ap (λ (ys : List PriceEntry). entry ys k) items ∙ (get_or_append_left xs (x ∷ []) no_entry k (omega (arith, l, many)) ∙ c.loop-e.invariant.each k l))
+          (ap (λ (ys : List PriceEntry). entry ys e) items ∙ (get_or_push xs x no_entry e many ∙ c.first_entry.ensures.value));
       light = below_more (λ k. get_or flags k false ≡ true → weight n.points ((edge_at n k).a, (edge_at n k).b) < 3 * 10 ^ 15) e c.loop-e.invariant.light c.first_entry.ensures.light;
     }

@@ -2,17 +2,17 @@ use Rattle.std.proofs.Common.{◌≡◌, ◌/◌, ◌-◌, ℕ, Bool, true, fals
 use Rattle.std.proofs.lemmas.Bool.{cond-false, cond-true, false≢true}
 use Rattle.std.proofs.lemmas.Int.{ints}
 use Rattle.lmt_network.specs.Network.{NetworkParts}
-use Rattle.price_ascent.specs.declared.entry.Entry.{Entry}
+use Rattle.price_ascent.specs.declared.entry.PriceEntry.{PriceEntry}
 use Rattle.price_ascent.specs.Steps.{start_entry}
 use Rattle.price_ascent.proofs.Lowering.{inner_off}
 use Rattle.price_ascent.proofs.Shares.{on_hull, weight_of}
 use Rattle.price_ascent.proofs.start.first_entry.Goals as goal
 
 -- the entry of an inner edge of the weight w
-abbrev inner_of : ℕ → ℤ → Entry
+abbrev inner_of : ℕ → ℤ → PriceEntry
 inner_of w u = record { value = pos (w / 2); left = pos 0; right = pos 0; up = u; down = pos (w / 2); live = true; anchored = false }
 
-abbrev inner : ℕ → Entry
+abbrev inner : ℕ → PriceEntry
 inner w = inner_of w (pos (w - w / 2))
 
 -- half of a weight and the rest

@@ -4,7 +4,7 @@ use Rattle.std.proofs.lemmas.List.{take_all, take_more}
 use Rattle.std.proofs.lemmas.List.Elements.{All-contains, Contains-get_or}
 use Rattle.exact_predicates.specs.declared.edge.Edge.{Edge}
 use Rattle.lmt_network.specs.Flags.{live_edges}
-use Rattle.price_ascent.specs.declared.entry.Entry.{Entry}
+use Rattle.price_ascent.specs.declared.entry.PriceEntry.{PriceEntry}
 use Rattle.price_ascent.specs.Entries.{live_of}
 use Rattle.price_ascent.proofs.Anchoring.{AreAnchored, anchored-back, anchored-forth, hull_passed, live_edge, live_number_of, more_anchored, none_anchored}
 use Rattle.price_ascent.proofs.prices.Prices.anchor_all.Goals as goal
@@ -45,12 +45,12 @@ loop-edge-preserved c =
     let more : take i xs ++ x ∷ [] ≡ take (i + 1) xs = ap (λ (y : Edge). take i xs ++ y ∷ []) c.edge-item.is ∙ sym (take_more xs i x c.loop-edge-test.true) in
     elim c.if-not-is_hull.branch [
       | then-not-is_hull w ↦
-          subst (λ (gs : List Entry). AreAnchored n es gs (take (i + 1) xs)) (sym w.self-is)
+          subst (λ (gs : List PriceEntry). AreAnchored n es gs (take (i + 1) xs)) (sym w.self-is)
           (subst (λ (ys : List Edge). AreAnchored n es w.anchor.new.self ys) more
           (more_anchored n es fs w.anchor.new.self (take i xs) x c.number-e.result c.loop-edge.invariant c.number-e.ensures
           (λ hull. false≢true (sym w.if-not-is_hull.true ∙ c.is_hull.ensures.1 hull)) w.anchor.ensures.belong w.anchor.ensures.anchored))
       | else-not-is_hull w ↦
-          subst (λ (gs : List Entry). AreAnchored n es gs (take (i + 1) xs)) (sym w.self-is)
+          subst (λ (gs : List PriceEntry). AreAnchored n es gs (take (i + 1) xs)) (sym w.self-is)
           (subst (λ (ys : List Edge). AreAnchored n es fs ys) more
           (hull_passed n es fs (take i xs) x c.number-e.result c.loop-edge.invariant c.number-e.ensures (c.is_hull.ensures.0 w.if-not-is_hull.false)))
     ]

@@ -1,7 +1,7 @@
 use Rattle.std.proofs.Common.{ap, sym, ◌∙◌, arith}
 use Rattle.std.proofs.lemmas.Bool.{false≢true}
 use Rattle.std.proofs.lemmas.Int.{ints}
-use Rattle.price_ascent.specs.declared.entry.Entry.{Entry}
+use Rattle.price_ascent.specs.declared.entry.PriceEntry.{PriceEntry}
 use Rattle.price_ascent.proofs.AnchorSums.{anchors_off, anchors_on}
 use Rattle.price_ascent.proofs.Lowering.{inner_off}
 use Rattle.price_ascent.proofs.Narrow.{limits}
@@ -12,7 +12,7 @@ pub returns-then-is_hull : goal.returns-then-is_hull
 returns-then-is_hull c =
     let hull = c.is_hull.ensures.0 c.if-is_hull.true in
     let is = anchors_on c.args.net.now c.args.self.now c.args.e (hull_on c.args.net.now c.args.e hull) in
-    let kept = ap (λ (p : Entry). p.value) c.at-kept.ensures in
+    let kept = ap (λ (p : PriceEntry). p.value) c.at-kept.ensures in
     let from = c.from.ensures in
     let y = (c.requires.entries.each c.args.e c.requires.e_in).anchor hull in
     let y0 = y.0 in
@@ -33,8 +33,8 @@ returns-else-is_hull c =
     let h = c.requires.entries.each c.args.e c.requires.e_in in
     let off = inner_off c.args.net.now c.args.e (λ hull. false≢true (sym c.if-is_hull.false ∙ c.is_hull.ensures.1 hull)) in
     let is = anchors_off c.args.net.now c.args.self.now c.args.e off in
-    let left = ap (λ (p : Entry). p.left) c.at-kept.ensures in
-    let right = ap (λ (p : Entry). p.right) c.at-kept.ensures in
+    let left = ap (λ (p : PriceEntry). p.left) c.at-kept.ensures in
+    let right = ap (λ (p : PriceEntry). p.right) c.at-kept.ensures in
     let l0 = h.left.0 in
     let l1 = h.left.1 in
     let r0 = h.right.0 in

@@ -1,13 +1,13 @@
 use Rattle.std.proofs.Common.{◌≡◌, length, sym, ◌∙◌, ap, inr, arith}
 use Rattle.std.proofs.lemmas.Bool.{false≢true}
-use Rattle.price_ascent.specs.declared.entry.Entry.{Entry}
+use Rattle.price_ascent.specs.declared.entry.PriceEntry.{PriceEntry}
 use Rattle.price_ascent.proofs.LiveSides.{three_sides_live}
 use Rattle.price_ascent.proofs.prices.Prices.is_live_triangle.Goals as goal
 use Rattle.price_ascent.proofs.prices.Prices.is_live_triangle.Goals.{then-at, else-at}
 
 pub returns-then-at-2 : goal.returns-then-at-2
 returns-then-at-2 c =
-    let live = λ (p : Entry). p.live in
+    let live = λ (p : PriceEntry). p.live in
     let three : length c.sides.result ≡ 3 = omega arith in
     elim c.if-at.branch [
       | then-at w ↦ (

@@ -5,7 +5,7 @@ use Rattle.exact_predicates.specs.declared.edge.Edge.{Edge}
 use Rattle.lmt_network.specs.Network.{tri_at}
 use Rattle.lmt_network.specs.Numbers.{HasSide}
 use Rattle.price_ascent.specs.Ascent.{IsLeastSlack, lowest}
-use Rattle.price_ascent.specs.declared.entry.Entry.{Entry}
+use Rattle.price_ascent.specs.declared.entry.PriceEntry.{PriceEntry}
 use Rattle.price_ascent.specs.Belonging.{IsPrice}
 use Rattle.price_ascent.specs.Entries.{entry, prices_of}
 use Rattle.price_ascent.specs.Steps.{AreShares, IsSlack, lowered}
@@ -22,7 +22,7 @@ least_slack-least-requires-clause-row c =
 
 pub lowered-fallen-requires-clause-price : goal.lowered-fallen-requires-clause-price
 lowered-fallen-requires-clause-price c =
-    subst (λ (p : Entry). IsPrice p.value) (sym c.at-kept.ensures) ((c.requires.entries.each c.args.e c.requires.e_in).price c.requires.inner)
+    subst (λ (p : PriceEntry). IsPrice p.value) (sym c.at-kept.ensures) ((c.requires.entries.each c.args.e c.requires.e_in).price c.requires.inner)
 
 pub lowered-fallen-requires-clause-shares : goal.lowered-fallen-requires-clause-shares
 lowered-fallen-requires-clause-shares c = subst AreShares (sym c.at-kept.ensures) (shares_fit c.args.net.now c.args.self.now c.args.e c.requires.entries c.requires.e_in c.requires.live)
@@ -38,7 +38,7 @@ the_fall c =
     let m = c.least_slack-least.result in
     let p = entry c.args.self.now c.args.e in
     let fits = least_fits c.args.net.now c.args.self.now _ _ m c.requires.entries c.requires.feasible c.least_slack-least.ensures in
-    let is : c.lowered-fallen.result ≡ lowered p m = c.lowered-fallen.ensures ∙ (ap (λ (q : Entry). lowered q (to_z w64 (of_z w64 m))) c.at-kept.ensures ∙ ap (lowered p) (least_is m fits)) in
+    let is : c.lowered-fallen.result ≡ lowered p m = c.lowered-fallen.ensures ∙ (ap (λ (q : PriceEntry). lowered q (to_z w64 (of_z w64 m))) c.at-kept.ensures ∙ ap (lowered p) (least_is m fits)) in
     record {
       change = record { entries = c.requires.entries; e_in = c.requires.e_in; is = c.keep.ensures ∙ ap (set c.args.self.now c.args.e) is; live = refl };
       feasible = c.requires.feasible;
@@ -73,9 +73,9 @@ returns-clause-at_rest c = λ rest.
     let p = entry c.args.self.now c.args.e in
     let f = the_fall c in
     let fits = least_fits c.args.net.now c.args.self.now _ _ m c.requires.entries c.requires.feasible c.least_slack-least.ensures in
-    let fallen : c.lowered-fallen.result ≡ lowered p m = c.lowered-fallen.ensures ∙ (ap (λ (q : Entry). lowered q (to_z w64 (of_z w64 m))) c.at-kept.ensures ∙ ap (lowered p) (least_is m fits)) in
+    let fallen : c.lowered-fallen.result ≡ lowered p m = c.lowered-fallen.ensures ∙ (ap (λ (q : PriceEntry). lowered q (to_z w64 (of_z w64 m))) c.at-kept.ensures ∙ ap (lowered p) (least_is m fits)) in
     let price = (c.requires.entries.each c.args.e c.requires.e_in).price c.requires.inner in
     let some = (fall_is c.args.net.now c.args.self.now c.keep.new.self c.args.e m f).0 in
     not_fallen c.args.net.now c.args.self.now c.keep.new.self c.args.e m f
-    (not_less _ _ (lowered p m).value p.value (ap (λ (q : Entry). q.value) fallen) (ap (λ (q : Entry). q.value) c.at-kept.ensures)
+    (not_less _ _ (lowered p m).value p.value (ap (λ (q : PriceEntry). q.value) fallen) (ap (λ (q : PriceEntry). q.value) c.at-kept.ensures)
     (fall_is c.args.net.now c.args.self.now c.keep.new.self c.args.e m f).2 price.0 price.1 some rest)

@@ -1,6 +1,6 @@
 use Rattle.std.proofs.Common.{◌≡◌, ◌<◌, ◌+◌, Bool, false, List, length, get_or, refl, ap, sym, ◌∙◌, subst, arith}
 use Rattle.std.proofs.lemmas.Bool.{false≢true}
-use Rattle.price_ascent.specs.declared.entry.Entry.{Entry}
+use Rattle.price_ascent.specs.declared.entry.PriceEntry.{PriceEntry}
 use Rattle.price_ascent.specs.Swept.{AreSwept}
 use Rattle.price_ascent.proofs.Sweeps.{more_swept, none_swept, skipped}
 use Rattle.price_ascent.proofs.prices.Prices.lower_all.Goals as goal
@@ -20,25 +20,25 @@ loop-e-preserved c =
     let live_is = c.live.ensures ∙ ap (λ (bs : List Bool). get_or bs e false) c.requires.live in
     elim c.if-live.branch [
       | then-live+then-not-is_hull+then-lower w ↦ record {
-        swept = subst (λ (xs : List Entry). AreSwept n es xs (e + 1)) (sym w.self-is)
+        swept = subst (λ (xs : List PriceEntry). AreSwept n es xs (e + 1)) (sym w.self-is)
             (more_swept n es fs w.lower.new.self e inv.swept w.lower.ensures.entries w.lower.ensures.feasible e_in
             (sym live_is ∙ w.if-live.true, λ hull. false≢true (sym w.if-not-is_hull.true ∙ w.is_hull.ensures.1 hull)) w.lower.ensures.lowered);
         at_rest = λ rest. absurd (false≢true (sym rest ∙ w.fell-is));
       }
       | else-live w ↦ elim w.else-live.branch [
         | else-live-via-then-live+then-not-is_hull+else-lower v ↦ record {
-          swept = subst (λ (xs : List Entry). AreSwept n es xs (e + 1)) (sym (w.self-is ∙ v.self-is))
+          swept = subst (λ (xs : List PriceEntry). AreSwept n es xs (e + 1)) (sym (w.self-is ∙ v.self-is))
               (more_swept n es fs v.lower.new.self e inv.swept v.lower.ensures.entries v.lower.ensures.feasible e_in
               (sym live_is ∙ v.if-live.true, λ hull. false≢true (sym v.if-not-is_hull.true ∙ v.is_hull.ensures.1 hull)) v.lower.ensures.lowered);
           at_rest = λ rest. (w.self-is ∙ v.self-is) ∙ (v.lower.ensures.at_rest v.if-lower.false ∙ inv.at_rest (sym w.fell-is ∙ rest));
         }
         | else-live-via-then-live+else-not-is_hull v ↦ record {
-          swept = subst (λ (xs : List Entry). AreSwept n es xs (e + 1)) (sym (w.self-is ∙ v.self-is))
+          swept = subst (λ (xs : List PriceEntry). AreSwept n es xs (e + 1)) (sym (w.self-is ∙ v.self-is))
               (skipped n es fs e inv.swept (λ inner. inner.1 (v.is_hull.ensures.0 v.if-not-is_hull.false)));
           at_rest = λ rest. (w.self-is ∙ v.self-is) ∙ inv.at_rest (sym w.fell-is ∙ rest);
         }
         | else-live-via-else-live v ↦ record {
-          swept = subst (λ (xs : List Entry). AreSwept n es xs (e + 1)) (sym (w.self-is ∙ v.self-is))
+          swept = subst (λ (xs : List PriceEntry). AreSwept n es xs (e + 1)) (sym (w.self-is ∙ v.self-is))
               (skipped n es fs e inv.swept (λ inner. false≢true (sym v.if-live.false ∙ (live_is ∙ inner.0))));
           at_rest = λ rest. (w.self-is ∙ v.self-is) ∙ inv.at_rest (sym w.fell-is ∙ rest);
         }

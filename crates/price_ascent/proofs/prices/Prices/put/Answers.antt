@@ -5,7 +5,7 @@ use Rattle.std.proofs.lemmas.Int.{ints}
 use Rattle.lmt_network.specs.Flags.{live_edges}
 use Rattle.lmt_network.specs.Network.{NetworkParts}
 use Rattle.lmt_network.specs.Numbers.{IsHullNumber}
-use Rattle.price_ascent.specs.declared.entry.Entry.{Entry}
+use Rattle.price_ascent.specs.declared.entry.PriceEntry.{PriceEntry}
 use Rattle.price_ascent.specs.Belonging.{AreEntriesOf, IsHullAnchor, IsSideAnchor, IsWithinRanges}
 use Rattle.price_ascent.specs.Entries.{entry, with_amounts}
 use Rattle.price_ascent.specs.Steps.{AreShares, repriced}
@@ -16,7 +16,7 @@ use Rattle.price_ascent.proofs.Shares.{hull_number, inner_number, on_hull, share
 use Rattle.price_ascent.proofs.prices.Prices.put.Goals as goal
 
 -- the value of an edge, in the ranges of a report or as raising leaves it
-value_fits : (n : NetworkParts) (es : List Entry) (e : ℕ) → AreEntriesOf n es → e < length n.edges → IsHullAnchor (entry es e).value
+value_fits : (n : NetworkParts) (es : List PriceEntry) (e : ℕ) → AreEntriesOf n es → e < length n.edges → IsHullAnchor (entry es e).value
 value_fits n es e b e_in =
     let h = b.each e e_in in
     ⊎_elim
@@ -45,13 +45,13 @@ repriced-requires-clause-shares c =
 pub repriced-requires-clause-kept_value : goal.repriced-requires-clause-kept_value
 repriced-requires-clause-kept_value c =
     let live = sym (live_at c.args.self.now c.args.e) ∙ c.requires.live in
-    subst (λ (p : Entry). IsHullAnchor p.value) (sym c.at-kept.ensures)
+    subst (λ (p : PriceEntry). IsHullAnchor p.value) (sym c.at-kept.ensures)
     (value_fits c.args.net.now c.args.self.now c.args.e c.requires.entries (live_below c.args.net.now c.args.self.now c.args.e c.requires.entries live))
 
 pub repriced-requires-clause-kept_left : goal.repriced-requires-clause-kept_left
 repriced-requires-clause-kept_left c =
     let live = sym (live_at c.args.self.now c.args.e) ∙ c.requires.live in
-    subst (λ (p : Entry). IsSideAnchor p.left) (sym c.at-kept.ensures)
+    subst (λ (p : PriceEntry). IsSideAnchor p.left) (sym c.at-kept.ensures)
     (c.requires.entries.each c.args.e (live_below c.args.net.now c.args.self.now c.args.e c.requires.entries live)).left
 
 pub repriced-requires-clause-value : goal.repriced-requires-clause-value
@@ -88,7 +88,7 @@ set_anew c =
     let hull = same_test n e c.is_hull.result c.is_hull.ensures in
     let is : c.repriced.result ≡ repriced (entry es e) (on_hull n e) c.args.value c.args.left c.args.right
     = c.repriced.ensures
-    ∙ (ap (λ (p : Entry). repriced p c.is_hull.result (to_z w64 (of_z w64 c.args.value)) (to_z w64 (of_z w64 c.args.left)) (to_z w64 (of_z w64 c.args.right))) c.at-kept.ensures
+    ∙ (ap (λ (p : PriceEntry). repriced p c.is_hull.result (to_z w64 (of_z w64 c.args.value)) (to_z w64 (of_z w64 c.args.left)) (to_z w64 (of_z w64 c.args.right))) c.at-kept.ensures
     ∙ (ap (λ (b : Bool). repriced (entry es e) b (to_z w64 (of_z w64 c.args.value)) (to_z w64 (of_z w64 c.args.left)) (to_z w64 (of_z w64 c.args.right))) hull
     ∙ (ap (λ (x : ℤ). repriced (entry es e) (on_hull n e) x (to_z w64 (of_z w64 c.args.left)) (to_z w64 (of_z w64 c.args.right))) value
     ∙ (ap (λ (x : ℤ). repriced (entry es e) (on_hull n e) c.args.value x (to_z w64 (of_z w64 c.args.right))) left

@@ -2,7 +2,7 @@ use Rattle.std.proofs.Common.{◌≡◌, ◌↔◌, ℕ, ◌<◌, length, set, C
 use Rattle.exact_predicates.specs.declared.edge.Edge.{Edge}
 use Rattle.lmt_network.specs.Network.{tri_at}
 use Rattle.lmt_network.specs.Numbers.{HasSide}
-use Rattle.price_ascent.specs.declared.entry.Entry.{Entry}
+use Rattle.price_ascent.specs.declared.entry.PriceEntry.{PriceEntry}
 use Rattle.price_ascent.specs.Ascent.{IsLeastSlack}
 use Rattle.price_ascent.specs.Belonging.{IsSideAnchor}
 use Rattle.price_ascent.specs.Entries.{entry, prices_of}
@@ -19,7 +19,7 @@ least_slack-least-requires-clause-row c =
 
 pub right_raised-requires-clause-anchor : goal.right_raised-requires-clause-anchor
 right_raised-requires-clause-anchor c =
-    subst (λ (p : Entry). IsSideAnchor p.right) (sym c.at-kept.ensures) (c.requires.entries.each c.args.e c.requires.e_in).right
+    subst (λ (p : PriceEntry). IsSideAnchor p.right) (sym c.at-kept.ensures) (c.requires.entries.each c.args.e c.requires.e_in).right
 
 pub right_raised-requires-clause-shares : goal.right_raised-requires-clause-shares
 right_raised-requires-clause-shares c =
@@ -36,7 +36,7 @@ returns c =
     let m = c.least_slack-least.result in
     let p = entry c.args.self.now c.args.e in
     let fits = least_fits c.args.net.now c.args.self.now _ _ m c.requires.entries c.requires.feasible c.least_slack-least.ensures in
-    let is : c.right_raised.result ≡ right_raised p m = c.right_raised.ensures ∙ (ap (λ (q : Entry). right_raised q (to_z w64 (of_z w64 m))) c.at-kept.ensures ∙ ap (right_raised p) (least_is m fits)) in
+    let is : c.right_raised.result ≡ right_raised p m = c.right_raised.ensures ∙ (ap (λ (q : PriceEntry). right_raised q (to_z w64 (of_z w64 m))) c.at-kept.ensures ∙ ap (right_raised p) (least_is m fits)) in
     record {
       m = m;
       least = subst (λ (x : Edge). IsLeastSlack c.args.net.now.points c.args.net.now.hull (prices_of c.args.net.now c.args.self.now) x.b x.a m) c.edge-edge.ensures.value c.least_slack-least.ensures;

@@ -3,7 +3,7 @@ use Rattle.std.proofs.lemmas.Bool.{cond-false, cond-true, le-ltb, lt-ltb}
 use Rattle.std.proofs.lemmas.Int.{ints}
 use Rattle.exact_predicates.specs.declared.tri.Tri.{Tri}
 use Rattle.lmt_network.specs.Network.{tri_at}
-use Rattle.price_ascent.specs.declared.entry.Entry.{Entry}
+use Rattle.price_ascent.specs.declared.entry.PriceEntry.{PriceEntry}
 use Rattle.price_ascent.specs.Entries.{entry}
 use Rattle.price_ascent.specs.Steps.{AreShares}
 use Rattle.price_ascent.proofs.Shares.{shares_fit}
@@ -52,10 +52,10 @@ returns c =
     let fit = subst AreShares (sym c.at.ensures) (shares_fit n es _ c.requires.entries c.sides.ensures.ab.0 (c.requires.live _ (inl c.sides.ensures.ab))) in
     let fit_j = subst AreShares (sym c.at-bc.ensures) (shares_fit n es _ c.requires.entries c.sides.ensures.bc.0 (c.requires.live _ (inr (inl c.sides.ensures.bc)))) in
     let fit_k = subst AreShares (sym c.at-2.ensures) (shares_fit n es _ c.requires.entries c.sides.ensures.ca.0 (c.requires.live _ (inr (inr c.sides.ensures.ca)))) in
-    let first = ap (λ (p : Entry). p.up) c.at.ensures in
-    let up = ap (λ (p : Entry). p.up) c.at-bc.ensures in
-    let down = ap (λ (p : Entry). p.down) c.at-bc.ensures in
-    let third = ap (λ (p : Entry). p.down) c.at-2.ensures in
+    let first = ap (λ (p : PriceEntry). p.up) c.at.ensures in
+    let up = ap (λ (p : PriceEntry). p.up) c.at-bc.ensures in
+    let down = ap (λ (p : PriceEntry). p.down) c.at-bc.ensures in
+    let third = ap (λ (p : PriceEntry). p.down) c.at-2.ensures in
     let is = slack-kept n es c.args.t _ _ _ c.requires.entries c.requires.live c.sides.ensures.ab c.sides.ensures.bc c.sides.ensures.ca in
     let b_is = ap (λ (t : Tri). t.b) c.tri-tri.ensures.value in
     let c_is = ap (λ (t : Tri). t.c) c.tri-tri.ensures.value in

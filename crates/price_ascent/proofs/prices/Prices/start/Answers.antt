@@ -5,14 +5,14 @@ use Rattle.lmt_network.specs.Network.{IsNetwork, NetworkParts, edge_at}
 use Rattle.lmt_network.specs.Numbers.{AreLive}
 use Rattle.lmt_network.specs.PriceTables.{PriceTable}
 use Rattle.lmt_network.proofs.Picked.{flag_from_live}
-use Rattle.price_ascent.specs.declared.entry.Entry.{Entry}
+use Rattle.price_ascent.specs.declared.entry.PriceEntry.{PriceEntry}
 use Rattle.price_ascent.specs.Ascent.{IsStart}
 use Rattle.price_ascent.specs.Entries.{entry}
 use Rattle.price_ascent.specs.Steps.{start_entry}
 use Rattle.price_ascent.proofs.Starting.{AreFirst, first_belong, first_live, first_start, none_yet}
 use Rattle.price_ascent.proofs.prices.Prices.start.Goals as goal
 
-first : (n : NetworkParts) (flags : List Bool) (es xs : List Entry) → es ≡ xs → IsNetwork n → length xs ≡ length n.edges → length flags ≡ length n.edges
+first : (n : NetworkParts) (flags : List Bool) (es xs : List PriceEntry) → es ≡ xs → IsNetwork n → length xs ≡ length n.edges → length flags ≡ length n.edges
     → ((e : ℕ) → e < length n.edges → entry xs e ≡ start_entry n flags e)
     → ((e : ℕ) → e < length n.edges → get_or flags e false ≡ true → weight n.points ((edge_at n e).a, (edge_at n e).b) < 3 * 10 ^ 15)
     → AreLive n (live_numbers flags) → AreFirst n flags es

@@ -1,6 +1,6 @@
 use Rattle.std.proofs.Common.{◌≡◌, ℕ, suc, ◌+◌, ◌-◌, Bool, List, length, ap, sym, ◌∙◌, subst, arith}
 use Rattle.lmt_network.specs.Flags.{live_edges}
-use Rattle.price_ascent.specs.declared.entry.Entry.{Entry}
+use Rattle.price_ascent.specs.declared.entry.PriceEntry.{PriceEntry}
 use Rattle.price_ascent.specs.Ascent.{AreSweeps, IsSweep}
 use Rattle.price_ascent.specs.Entries.{table_of}
 use Rattle.price_ascent.proofs.Sweeps.{all_swept, sweeps_at_rest, swept_belong}
@@ -36,13 +36,13 @@ returns-then-not-lower_all c =
     let h = c.lower_all.ensures.swept in
     let same : es ≡ fs = sym (c.lower_all.ensures.at_rest c.if-not-lower_all.true) in
     let sweep = subst (λ (bs : List Bool). IsSweep n bs (table_of es) (table_of fs)) inv.live (all_swept n es fs (length n.edges) inv.belong.entries h (omega arith)) in
-    let rest = subst (λ (xs : List Entry). IsSweep n flags (table_of xs) (table_of fs)) same sweep in
+    let rest = subst (λ (xs : List PriceEntry). IsSweep n flags (table_of xs) (table_of fs)) same sweep in
     let k = c.loop-done._done in
     let below = c.loop-done-test.true in
     let all : (c.args.sweeps - k) + k ≡ c.args.sweeps = omega (arith, below) in
     record {
       sweeps = subst (λ (i : ℕ). AreSweeps n flags i first (table_of fs)) all
-          (sweeps_at_rest n flags k (c.args.sweeps - k) first (table_of fs) (subst (λ (xs : List Entry). AreSweeps n flags k first (table_of xs)) same inv.sweeps) rest);
+          (sweeps_at_rest n flags k (c.args.sweeps - k) first (table_of fs) (subst (λ (xs : List PriceEntry). AreSweeps n flags k first (table_of xs)) same inv.sweeps) rest);
       belong = swept_belong n es fs (length n.edges) h inv.belong;
       live = h.live ∙ (inv.live ∙ c.requires.live);
       anchored = ap (live_edges n) h.anchored ∙ inv.anchored;

@@ -1,6 +1,6 @@
 use Rattle.std.proofs.Common.{sym, ◌∙◌, arith}
 use Rattle.std.proofs.lemmas.Int.{ints}
-use Rattle.price_ascent.specs.declared.entry.Entry.{Entry}
+use Rattle.price_ascent.specs.declared.entry.PriceEntry.{PriceEntry}
 use Rattle.price_ascent.specs.Entries.{no_entry}
 use Rattle.price_ascent.proofs.Kept.{get_or-mapped, value_is}
 use Rattle.price_ascent.proofs.Narrow.{belong_kept}
@@ -33,16 +33,16 @@ pub returns-clause-lefts : goal.returns-clause-lefts
 returns-clause-lefts c = λ e.
     let a = c.tighten_hull.ensures.lefts e in
     let b = c.tighten_inner.ensures.lefts e in
-    let old = get_or-mapped (λ (p : Entry). p.left) c.args.self.now e no_entry in
-    let new = get_or-mapped (λ (p : Entry). p.left) c.tighten_inner.new.self e no_entry in
+    let old = get_or-mapped (λ (p : PriceEntry). p.left) c.args.self.now e no_entry in
+    let new = get_or-mapped (λ (p : PriceEntry). p.left) c.tighten_inner.new.self e no_entry in
     omega (arith, ints, a, b, old, new)
 
 pub returns-clause-rights : goal.returns-clause-rights
 returns-clause-rights c = λ e.
     let a = c.tighten_hull.ensures.rights e in
     let b = c.tighten_inner.ensures.rights e in
-    let old = get_or-mapped (λ (p : Entry). p.right) c.args.self.now e no_entry in
-    let new = get_or-mapped (λ (p : Entry). p.right) c.tighten_inner.new.self e no_entry in
+    let old = get_or-mapped (λ (p : PriceEntry). p.right) c.args.self.now e no_entry in
+    let new = get_or-mapped (λ (p : PriceEntry). p.right) c.tighten_inner.new.self e no_entry in
     omega (arith, ints, a, b, old, new)
 
 pub returns-clause-bare : goal.returns-clause-bare

@@ -3,7 +3,7 @@ use Rattle.std.proofs.Common.{Some, sym, ap, ◌∙◌}
 use Rattle.tsplib_points.specs.Lines.{Line}
 use Rattle.tsplib_points.specs.Header.{header_reason, parts_of}
 use Rattle.tsplib_points.proofs.Steps.{reason_header, dimension_known, first_dimension, passes_end, passes_section, passes_dimension, passes_entry}
-use Rattle.tsplib_points.proofs.gather.Pass.header_line.Goals as goal
+use Rattle.tsplib_points.proofs.gather.LinePass.header_line.Goals as goal
 
 pub returns-in-Err-clause-fails : goal.returns-in-Err-clause-fails
 returns-in-Err-clause-fails c = λ before h.

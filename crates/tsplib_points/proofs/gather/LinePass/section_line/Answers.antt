@@ -6,7 +6,7 @@ use Rattle.tsplib_points.specs.Header.{is_end, is_end_mark}
 use Rattle.tsplib_points.specs.Nodes.{nodes, node_reason}
 use Rattle.tsplib_points.proofs.KeptNodes.{kept_node, node_judged, more_numbers}
 use Rattle.tsplib_points.proofs.Steps.{reason_end, reason_section, passes_end, passes_node}
-use Rattle.tsplib_points.proofs.gather.Pass.section_line.Goals as goal
+use Rattle.tsplib_points.proofs.gather.LinePass.section_line.Goals as goal
 
 pub returns-then-is_end_mark-clause-over : goal.returns-then-is_end_mark-clause-over
 unfolding is_end

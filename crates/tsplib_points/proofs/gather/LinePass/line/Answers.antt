@@ -2,7 +2,7 @@
 use Rattle.std.proofs.Common.{Some, sym, ap, ◌∙◌}
 use Rattle.tsplib_points.specs.Lines.{Line}
 use Rattle.tsplib_points.proofs.Steps.{reason_blank, reason_ended, blank_nothing, passes_nothing}
-use Rattle.tsplib_points.proofs.gather.Pass.line.Goals as goal
+use Rattle.tsplib_points.proofs.gather.LinePass.line.Goals as goal
 
 pub returns-then-is_blank_text-clause-over : goal.returns-then-is_blank_text-clause-over
 returns-then-is_blank_text-clause-over c = λ before h.

@@ -6,12 +6,12 @@ use exact_predicates::{Points, Tri, orient};
 
 /// One of the two chains of a hull. Both go from point 0 up to the newest point.
 #[derive(Clone, Copy)]
-pub(crate) enum Side {
+pub(crate) enum Chain {
     Lower,
     Upper,
 }
 
-impl Side {
+impl Chain {
     ghost use Rattle.hull_sweep.specs.Chain.{turn};
     ghost use Rattle.hull_sweep.specs.Join.{HasTriangle};
 
@@ -24,8 +24,8 @@ impl Side {
         ensures { let ps = points.now.points in result ≡ turn self (point_at ps p) (point_at ps q) (point_at ps r) }
     {
         match self {
-            Side::Lower => orient(points.at(p), points.at(q), points.at(r)),
-            Side::Upper => orient(points.at(q), points.at(p), points.at(r)),
+            Chain::Lower => orient(points.at(p), points.at(q), points.at(r)),
+            Chain::Upper => orient(points.at(q), points.at(p), points.at(r)),
         }
     }
 
@@ -36,8 +36,8 @@ impl Side {
         ensures { HasTriangle self y x q result }
     {
         match self {
-            Side::Lower => Tri { a: y, b: q, c: x },
-            Side::Upper => Tri { a: y, b: x, c: q },
+            Chain::Lower => Tri { a: y, b: q, c: x },
+            Chain::Upper => Tri { a: y, b: x, c: q },
         }
     }
 }
