@@ -3,18 +3,22 @@ ghost use Rattle.std.specs.Prelude.{◌≡◌};
 ghost use Rattle.cert_text.specs.Reasons.{code_of, refused};
 
 use std::alloc::{AllocError, AllocFailed};
+use thiserror::Error;
 
 /// Why a text is refused: the code of the rule that it breaks, and the number of the line that breaks it.
-#[derive(Clone, Copy, Debug, PartialEq, Eq)]
+#[derive(Clone, Copy, Debug, PartialEq, Eq, Error)]
+#[error("rule {code} is broken at line {line}")]
 pub struct Refusal2 {
     pub code: u32,
     pub line: u32,
 }
 
 /// Why there is no report: the text is refused, or memory ran out.
-#[derive(Clone, Copy, Debug, PartialEq, Eq)]
+#[derive(Clone, Copy, Debug, PartialEq, Eq, Error)]
 pub enum ReportStop {
+    #[error("{0}")]
     Refused(Refusal2),
+    #[error("out of memory")]
     NoMemory,
 }
 

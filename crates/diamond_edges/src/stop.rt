@@ -3,13 +3,16 @@ ghost use Rattle.std.specs.Prelude.{◌≡◌};
 
 use mwt_base::NoMemory;
 use std::alloc::{AllocError, AllocFailed};
+use thiserror::Error;
 
 /// Why the candidate edges are not listed.
-#[derive(Clone, Copy, Debug, PartialEq, Eq)]
+#[derive(Clone, Copy, Debug, PartialEq, Eq, Error)]
 pub enum EdgeStop {
     /// There are more than 400,000.
+    #[error("more than 400,000 candidate edges")]
     Dense,
     /// Out of memory.
+    #[error("out of memory")]
     NoMemory,
 }
 

@@ -4,13 +4,17 @@ ghost use Rattle.dual_checker.specs.declared.stop.CheckStop.TheVariants.{NoMemor
 
 use mwt_base::NoMemory;
 use std::alloc::AllocError;
+use thiserror::Error;
 
 /// Why a set of points has no elimination: it has more candidate edges, or more empty triangles with
 /// candidate sides, than the limit; or memory ran out.
-#[derive(Clone, Copy, Debug, PartialEq, Eq)]
+#[derive(Clone, Copy, Debug, PartialEq, Eq, Error)]
 pub enum CheckStop {
+    #[error("more than 400,000 candidate edges")]
     DenseEdges,
+    #[error("more than 4,000,000 empty triangles")]
     DenseTriangles,
+    #[error("out of memory")]
     NoMemory,
 }
 

@@ -3,13 +3,16 @@ ghost use Rattle.std.specs.Prelude.{◌≡◌};
 
 use mwt_base::NoMemory;
 use std::alloc::{AllocError, AllocFailed};
+use thiserror::Error;
 
 /// Why the empty triangles are not listed.
-#[derive(Clone, Copy, Debug, PartialEq, Eq)]
+#[derive(Clone, Copy, Debug, PartialEq, Eq, Error)]
 pub enum TriStop {
     /// There are more than 4,000,000.
+    #[error("more than 4,000,000 empty triangles")]
     Dense,
     /// Out of memory.
+    #[error("out of memory")]
     NoMemory,
 }
 

@@ -7,6 +7,7 @@ use crate::point::Point;
 use crate::staying::{are_in_range, first_at_each_place, has_distinct_ids, is_flat, sort_by_place};
 use std::alloc::{AllocError, Global};
 use std::marker::Model;
+use thiserror::Error;
 
 const FEWEST_POINTS: usize = 3;
 
@@ -32,9 +33,11 @@ impl Model for Points {
 
 /// Why a list of points is refused: the first of these rules that it breaks, by its number. Or want
 /// of memory.
-#[derive(Clone, Copy, Debug, PartialEq, Eq)]
+#[derive(Clone, Copy, Debug, PartialEq, Eq, Error)]
 pub enum PointsStop {
+    #[error("the points break rule {0}")]
     Refused(u32),
+    #[error("out of memory")]
     NoMemory,
 }
 

@@ -7,13 +7,16 @@ ghost use Rattle.mwt_base.specs.Causes.{HasCause};
 ghost use Rattle.mwt_base.specs.Told.{WriteGrows};
 
 use std::alloc::{AllocError, AllocFailed};
+use thiserror::Error;
 
 /// A call of the outside failed.
-#[derive(Clone, Copy, Debug, PartialEq, Eq)]
+#[derive(Clone, Copy, Debug, PartialEq, Eq, Error)]
+#[error("a read or a write failed")]
 pub struct Failed;
 
 /// Out of memory. It is an error of its own, merged with no other.
-#[derive(Clone, Copy, Debug, PartialEq, Eq)]
+#[derive(Clone, Copy, Debug, PartialEq, Eq, Error)]
+#[error("out of memory")]
 pub struct NoMemory;
 
 impl From<AllocError> for NoMemory {

@@ -7,14 +7,18 @@ ghost use Rattle.mwt_base.specs.declared.whole.ReadStop.TheVariants.{ReadFault, 
 
 use crate::{Bytes, Failed, Sink, Source};
 use std::alloc::{AllocError, Global};
+use thiserror::Error;
 
 const PIECE: usize = 65_536;
 
 /// Why a source was not read to its end: a read failed, more than the limit came, or memory ran out.
-#[derive(Clone, Copy, Debug, PartialEq, Eq)]
+#[derive(Clone, Copy, Debug, PartialEq, Eq, Error)]
 pub enum ReadStop {
+    #[error("a read failed")]
     ReadFault,
+    #[error("more bytes came than the limit")]
     TooLong,
+    #[error("out of memory")]
     NoMemory,
 }
 
