@@ -1,7 +1,8 @@
 -- The window of a first corner.
-use Rattle.std.proofs.Common.{◌≡◌, ◌⊎◌, ◌↔◌, Bool, false, IsTrue, ℕ, ◌+◌, ◌<◌, ◌≤◌, pos, ◌<ℤ◌, ◌≤ℤ◌, List, length, Contains, arith, subst, inl, inr, ⊎_elim}
+use Rattle.std.proofs.Common.{◌≡◌, ◌⊎◌, ◌↔◌, Bool, false, IsTrue, ℕ, ◌+◌, ◌<◌, ◌≤◌, pos, ◌<ℤ◌, ◌≤ℤ◌, List, [], ◌∷◌, ◌++◌, length, slice_index, slice_index_or, Contains, arith, ap, sym, ◌∙◌, subst, inl, inr, ⊎_elim}
 use Rattle.std.proofs.lemmas.Bool.{cases_eq}
 use Rattle.std.proofs.lemmas.Int.{ints}
+use Rattle.std.proofs.lemmas.List.{get_or_append_left, get_or_push, length_push}
 use Rattle.std.proofs.lemmas.List.Sorted.{Contains-permutation}
 use Rattle.std.specs.List.Sorted.{IsPermutation}
 use Rattle.exact_predicates.specs.declared.edge.Edge.{Edge}
@@ -66,10 +67,6 @@ IsCorner-window ps es a row numbers order heads w v a_in r around all moved seen
 pub IsRow-joins : (es : List Edge) (a : ℕ) (row : List ℕ) (b c : ℕ) (found : Bool) → IsRow es a row → a < c → Contains row c → IsTrue found ↔ HasEdge es b c → IsTrue found ↔ (HasEdge es a c × HasEdge es b c)
 IsRow-joins es a row b c found r up (k, k_in, at_k) h = (λ t. (subst (HasEdge es a) at_k (r.each k c k_in).1, h.0 t), λ e. h.1 e.1)
 
--- and where it is not
-pub not_joined : (es : List Edge) (a : ℕ) (row : List ℕ) (b c : ℕ) (found : Bool) → found ≡ false → IsRow es a row → a < c → IsTrue found ↔ Contains row c → IsTrue found ↔ (HasEdge es a c × HasEdge es b c)
-not_joined es a row b c found lost r up h = (λ t. absurd (cc), λ e. h.1 (r.all c up e.0))
-
 -- a wider window has the points of the first
 pub IsIn-wider : (ps : List Point) (w v : Window) (b : ℕ) (p : Point) (r : ℕ) → Widens w b p v → IsIn ps w r → IsIn ps v r
 IsIn-wider ps w v b p r h i =
@@ -88,3 +85,21 @@ pub IsIn-new : (ps : List Point) (w v : Window) (b : ℕ) (p : Point) → Widens
 IsIn-new ps w v b p h up at =
     let from = h.from in
     record { from = omega arith; to = h.past; low = rw at at h.above; high = rw at at h.below }
+
+-- the first n of the heads have their marks
+pub record AreMarkedTo (row heads : List ℕ) (n : ℕ) (marks : List Bool) : Type 0 where
+  pub count : length marks ≡ n
+  pub each : (k : ℕ) → k < n → IsTrue (slice_index_or marks k false) ↔ Contains row (slice_index heads k)
+
+-- one more
+pub AreMarkedTo-push : (row heads : List ℕ) (n : ℕ) (marks : List Bool) (b : Bool) → AreMarkedTo row heads n marks → IsTrue b ↔ Contains row (slice_index heads n)
+    → AreMarkedTo row heads (n + 1) (marks ++ b ∷ [])
+AreMarkedTo-push row heads n marks b m is =
+    record {
+      count = length_push marks b ∙ ap (λ k. k + 1) m.count;
+      each = λ k k_in. ⊎_elim
+          (λ (here : k ≡ n). subst (λ i. IsTrue (slice_index_or (marks ++ b ∷ []) i false) ↔ Contains row (slice_index heads i)) (sym here)
+          (subst (λ x. IsTrue x ↔ Contains row (slice_index heads n)) (sym (get_or_push marks b false n m.count)) is))
+          (λ other. subst (λ x. IsTrue x ↔ Contains row (slice_index heads k)) (sym (get_or_append_left marks (b ∷ []) false k (omega (arith, m.count)))) (m.each k (omega arith)))
+          (cases_eq k n);
+    }

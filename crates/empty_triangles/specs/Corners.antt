@@ -1,5 +1,5 @@
 -- What is known of a first corner.
-use Rattle.std.specs.Prelude.{◌≡◌, ◌⊎◌, ℕ, ◌+◌, ◌<◌, ◌≤◌, List, length, All, Contains, pos, ◌<ℤ◌, ◌≤ℤ◌}
+use Rattle.std.specs.Prelude.{◌≡◌, ◌⊎◌, ◌↔◌, Bool, false, IsTrue, ℕ, ◌+◌, ◌<◌, ◌≤◌, List, length, slice_index, slice_index_or, All, Contains, pos, ◌<ℤ◌, ◌≤ℤ◌}
 use Rattle.exact_predicates.specs.declared.edge.Edge.{Edge}
 use Rattle.exact_predicates.specs.declared.point.Point.{Point}
 use Rattle.exact_predicates.specs.Plane.{orient, IsInClosedTriangle}
@@ -37,3 +37,8 @@ pub record IsCorner (ps : List Point) (es : List Edge) (a : ℕ) (row heads : Li
   pub inside : (b c r : ℕ) → Contains row b → Contains row c → r < length ps
       → pos 0 <ℤ orient (point_at ps a) (point_at ps b) (point_at ps c)
       → IsInClosedTriangle (point_at ps a) (point_at ps b) (point_at ps c) (point_at ps r) → (r ≡ a) ⊎ IsOnRay ps a heads r
+
+-- a mark for each of the heads, which says whether it is in the row
+pub record AreMarked (row heads : List ℕ) (marks : List Bool) : Type 0 where
+  pub count : length marks ≡ length heads
+  pub each : (k : ℕ) → k < length heads → IsTrue (slice_index_or marks k false) ↔ Contains row (slice_index heads k)

@@ -2,7 +2,7 @@
 ghost use Rattle.std.specs.Prelude.{◌≡◌, ◌≢◌, ◌+◌, ◌<◌, AllPairs, Contains, MatchOption, length, slice_index, OnOk};
 ghost use Rattle.exact_predicates.specs.PointSet.{IsPointSet};
 ghost use Rattle.empty_triangles.specs.Enumeration.{AreStarts, AreThirds};
-ghost use Rattle.empty_triangles.specs.Corners.{IsCorner};
+ghost use Rattle.empty_triangles.specs.Corners.{AreMarked, IsCorner};
 ghost use Rattle.empty_triangles.specs.Rays.{AreTurning, AreSeen, AreLists};
 
 use crate::corner::Corner;
@@ -26,6 +26,7 @@ pub(crate) fn fill_thirds(
     requires count { length starts.now ≡ length points.now.points + 1 }
     requires a_in { corner.now.a < length points.now.points }
     requires corner { IsCorner points.now.points edges.now corner.now.a corner.now.row.items corner.now.heads.items }
+    requires marked { AreMarked corner.now.row.items corner.now.heads.items corner.now.marks.items }
     requires lists { AreLists points.now.points corner.now.heads.items (length corner.now.seen.items) corner.now.seen.items }
     requires neighbor { Contains corner.now.row.items b }
     requires b_in { b < length points.now.points }
@@ -98,6 +99,7 @@ fn thirds_at(
     requires count { length starts.now ≡ length points.now.points + 1 }
     requires a_in { corner.now.a < length points.now.points }
     requires corner { IsCorner points.now.points edges.now corner.now.a corner.now.row.items corner.now.heads.items }
+    requires marked { AreMarked corner.now.row.items corner.now.heads.items corner.now.marks.items }
     requires lists { AreLists points.now.points corner.now.heads.items (length corner.now.seen.items) corner.now.seen.items }
     requires j_in { j < length corner.now.heads.items }
     requires neighbor { Contains corner.now.row.items (slice_index corner.now.heads.items j) }
@@ -128,6 +130,7 @@ fn thirds_among(
     requires corner { IsCorner points.now.points edges.now corner.now.a corner.now.row.items corner.now.heads.items }
     requires j_in { j < length corner.now.heads.items }
     requires neighbor { Contains corner.now.row.items (slice_index corner.now.heads.items j) }
+    requires marked { AreMarked corner.now.row.items corner.now.heads.items corner.now.marks.items }
     requires seen { AreSeen points.now.points corner.now.heads.items j places.now }
     ensures are { OnOk result (AreThirds points.now.points edges.now corner.now.a (slice_index corner.now.heads.items j) thirds.new.items) }
     ensures distinct { OnOk result (AllPairs (λ c d. c ≢ d) thirds.new.items) }
@@ -135,9 +138,9 @@ fn thirds_among(
     thirds.clear();
     let b = corner.heads[j];
     for t in 0..places.len() {
-        let c = corner.heads[places[t]];
-        if corner.joins(edges, starts, b, c) {
-            thirds.push(c)?;
+        let k = places[t];
+        if corner.joins(edges, starts, b, k) {
+            thirds.push(corner.heads[k])?;
         }
     }
     Ok(())

@@ -1,6 +1,6 @@
 // The empty triangles with one first corner, and with those of a group.
 ghost use Rattle.std.specs.Prelude.{◌≡◌, ◌≢◌, ◌+◌, ◌<◌, length, All, IfOk, OnOk};
-ghost use Rattle.empty_triangles.specs.Corners.{IsCorner};
+ghost use Rattle.empty_triangles.specs.Corners.{AreMarked, IsCorner};
 ghost use Rattle.empty_triangles.specs.Enumeration.{AreStarts, AreTrianglesWith, IsFanAdded, IsReady, group_of};
 ghost use Rattle.empty_triangles.specs.Rays.{AreLists};
 
@@ -64,6 +64,7 @@ fn fill_triangles(
     requires within { All (λ e. e.b < length points.now.points) edges.now }
     requires a_in { corner.now.a < length points.now.points }
     requires corner { IsCorner points.now.points edges.now corner.now.a corner.now.row.items corner.now.heads.items }
+    requires marked { AreMarked corner.now.row.items corner.now.heads.items corner.now.marks.items }
     requires lists { AreLists points.now.points corner.now.heads.items (length corner.now.seen.items) corner.now.seen.items }
     ensures { OnOk result (AreTrianglesWith points.now.points edges.now (λ t. t.a ≡ corner.now.a) tris.new.items) }
 {

@@ -5,53 +5,33 @@ use Rattle.empty_triangles.proofs.Thirds.{AreThirdsTo-push, AreThirdsTo-skip, Ar
 use Rattle.empty_triangles.proofs.fan.thirds_among.Goals as goal
 use Rattle.empty_triangles.proofs.fan.thirds_among.Goals.{then-joins+in_ok-push, else-joins}
 
-pub index-c-requires : goal.index-c-requires
-index-c-requires c =
-    let p = c.requires.seen in
-    let seen = (p.each c.loop-t.t 0 (omega arith)).before in
-    let j_in = c.requires.j_in in
-    omega arith
-
-pub joins-requires-clause-later : goal.joins-requires-clause-later
-joins-requires-clause-later c =
-    let heads = c.args.corner.now.heads.items in
-    let places = c.args.places.now in
-    let p = c.requires.seen in
-    let seen = (p.each c.loop-t.t 0 (omega arith)).before in
-    let i_in : slice_index places c.loop-t.t < length heads = omega (arith, seen, c.requires.j_in) in
-    let here : c.index-c.result.now ≡ slice_index heads (slice_index places c.loop-t.t) = c.index-c.ensures ∙ get_or_default heads (slice_index places c.loop-t.t) _ 0 i_in in
-    let n = c.requires.corner.around.each (slice_index places c.loop-t.t) 0 i_in in
-    omega (arith, n.0)
-
 pub joins-requires-clause-apart : goal.joins-requires-clause-apart
 joins-requires-clause-apart c = λ same.
     let heads = c.args.corner.now.heads.items in
-    let places = c.args.places.now in
-    let p = c.requires.seen in
-    let seen = (p.each c.loop-t.t 0 (omega arith)).before in
-    let i_in : slice_index places c.loop-t.t < length heads = omega (arith, seen, c.requires.j_in) in
-    let here : c.index-c.result.now ≡ slice_index heads (slice_index places c.loop-t.t) = c.index-c.ensures ∙ get_or_default heads (slice_index places c.loop-t.t) _ 0 i_in in
+    let place = slice_index c.args.places.now c.loop-t.t in
+    let seen = (c.requires.seen.each c.loop-t.t 0 (omega arith)).before in
     let b : c.index-b.result.now ≡ slice_index heads c.args.j = c.index-b.ensures ∙ get_or_default heads c.args.j _ 0 c.requires.j_in in
-    heads_apart _ c.requires.points _ c.requires.a_in heads c.requires.corner.around (slice_index places c.loop-t.t) c.args.j seen c.requires.j_in (sym here ∙ (sym same ∙ b))
+    heads_apart _ c.requires.points _ c.requires.a_in heads c.requires.corner.around place c.args.j seen c.requires.j_in (sym same ∙ b)
 
 pub loop-t-preserved : goal.loop-t-preserved
 loop-t-preserved c =
     let heads = c.args.corner.now.heads.items in
     let places = c.args.places.now in
+    let place = slice_index places c.loop-t.t in
     let p = c.requires.seen in
     let t_in : c.loop-t.t < length places = omega arith in
     let seen = (p.each c.loop-t.t 0 t_in).before in
-    let i_in : slice_index places c.loop-t.t < length heads = omega (arith, seen, c.requires.j_in) in
-    let here : c.index-c.result.now ≡ slice_index heads (slice_index places c.loop-t.t) = c.index-c.ensures ∙ get_or_default heads (slice_index places c.loop-t.t) _ 0 i_in in
+    let place_in : place < length heads = omega (arith, seen, c.requires.j_in) in
     let b : c.index-b.result.now ≡ slice_index heads c.args.j = c.index-b.ensures ∙ get_or_default heads c.args.j _ 0 c.requires.j_in in
     elim c.if-joins.branch [
       | then-joins+in_ok-push w ↦
-          rw (w.thirds-is, w.in_ok-push.ensures.items)
-          (AreThirdsTo-push _ _ _ _ heads c.requires.points c.requires.a_in c.requires.corner c.args.j c.requires.j_in c.requires.neighbor places p c.loop-t.t _ _ here t_in
+          let head : w.index.result.now ≡ slice_index heads place = w.index.ensures ∙ get_or_default heads place _ 0 place_in in
+          rw (w.thirds-is, w.in_ok-push.ensures.items, head)
+          (AreThirdsTo-push _ _ _ _ heads c.requires.points c.requires.a_in c.requires.corner c.args.j c.requires.j_in c.requires.neighbor places p c.loop-t.t _ _ refl t_in
           (rw b at (w.if-joins.ensures.0 refl)) c.loop-t.invariant)
       | else-joins w ↦
           rw w.thirds-is
-          (AreThirdsTo-skip _ _ _ _ heads c.requires.points c.requires.a_in c.requires.corner c.args.j c.requires.j_in c.requires.neighbor places p c.loop-t.t _ _ here
+          (AreThirdsTo-skip _ _ _ _ heads c.requires.points c.requires.a_in c.requires.corner c.args.j c.requires.j_in c.requires.neighbor places p c.loop-t.t _ _ refl
           (λ h. let joined = (rw b at w.if-joins.ensures).1 h in cc) c.loop-t.invariant)
     ]
 

@@ -1,12 +1,13 @@
-use Rattle.empty_triangles.proofs.Corners.{IsRow-joins, not_joined}
+use Rattle.std.proofs.Common.{◌≡◌, false, slice_index, arith, sym, ◌∙◌}
+use Rattle.std.proofs.lemmas.List.{get_or_default}
+use Rattle.empty_triangles.proofs.Corners.{IsRow-joins}
 use Rattle.empty_triangles.proofs.corner.Corner.joins.Goals as goal
 
-pub returns-then-has_number : goal.returns-then-has_number
-returns-then-has_number c =
-    let here = rw c.deref.ensures.value at c.has_number.ensures in
-    IsRow-joins _ _ _ _ _ _ c.requires.row c.requires.later (here.0 c.if-has_number.true) c.has_edge.ensures
-
-pub returns-else-has_number : goal.returns-else-has_number
-returns-else-has_number c =
-    let here = rw c.deref.ensures.value at c.has_number.ensures in
-    not_joined _ _ _ c.args.b _ _ c.if-has_number.false c.requires.row c.requires.later here
+pub returns-then-index : goal.returns-then-index
+returns-then-index c =
+    let corner = c.args.self.now in
+    let m = c.requires.marked in
+    let k_in = c.requires.k_in in
+    let marked = sym (c.index.ensures ∙ get_or_default corner.marks.items c.args.k _ false (omega (arith, m.count, k_in))) ∙ c.if-index.true in
+    let head : c.index-then-index.result.now ≡ slice_index corner.heads.items c.args.k = c.index-then-index.ensures ∙ get_or_default corner.heads.items c.args.k _ 0 k_in in
+    IsRow-joins _ _ _ _ _ _ c.requires.row c.requires.later ((m.each c.args.k k_in).0 marked) (rw head at c.has_edge.ensures)
