@@ -14,8 +14,10 @@ use mwt_base::NoMemory;
 use point_grid::{Grid, SightList, by_direction};
 use std::alloc::Global;
 
-// Lists of what is seen are made where a row has more edges than this, and hold about so many places for
-// each head at most.
+// Lists of what is seen hold a place for each head and for so many edges of the row, on average, and no more
+// than so many for each head.
+const EDGES_A_PLACE: usize = 16;
+
 const LISTED: usize = 32;
 
 /// A first corner: the greater ends of its edges, ascending; the first points on the rays from it, from
@@ -127,11 +129,8 @@ fn fill_marks(row: &[u32], heads: &[u32], marks: &mut Vec<bool>) -> Result<(), N
 }
 
 // How many places lists of what is seen may hold. A list is found by those before it, so that all of them
-// are made; a pass for each edge takes less where there are few edges.
+// are made, and each place takes a bisection; a pass over the heads for each edge takes less where there are
+// few edges. So lists that grow too long are left, after less time than the passes take.
 fn most_listed(edges: usize, heads: usize) -> usize {
-    if edges <= LISTED {
-        0
-    } else {
-        heads.saturating_mul(LISTED)
-    }
+    heads.saturating_mul((edges / EDGES_A_PLACE).min(LISTED))
 }
