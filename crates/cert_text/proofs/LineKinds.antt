@@ -1,9 +1,8 @@
 -- Kinds of lines: what is read of one is spelled so, and what is spelled so is read.
-use Rattle.std.proofs.Common.{◌≡◌, ◌⊎◌, ℕ, ◌<◌, Bool, true, false, cond, List, [], ◌∷◌, length, Result, Ok, Err, inl, inr, refl, ap, bytes_eq}
+use Rattle.std.proofs.Common.{◌≡◌, ◌⊎◌, ℕ, ◌<◌, Bool, true, false, cond, List, ◌∷◌, length, Result, Ok, Err, inl, inr, refl, ap, bytes_eq}
 use Rattle.std.specs.List.{list_all}
 use Rattle.std.proofs.lemmas.Slice.Eq.{bytes_eq-Decides}
 use Rattle.cert_text.specs.declared.found.Flaw.TheVariants.{NotSpelled, Outside}
-use Rattle.cert_text.specs.Cuts.{one, two, after}
 use Rattle.cert_text.specs.Found.{◌>>=◌, Found, both}
 use Rattle.cert_text.proofs.Cutting.{is_plain}
 use Rattle.cert_text.proofs.Shapes.{value_is}
@@ -46,27 +45,7 @@ word_is w k e = (bytes_eq-Decides w k).0 e
 pub word_same : (k : List ℕ) → bytes_eq k k ≡ true
 word_same k = (bytes_eq-Decides k k).1 refl
 
--- so many fields
-pub one_is : (fs : List (List ℕ)) (a : List ℕ) → one fs ≡ Ok a → fs ≡ a ∷ []
-one_is (b ∷ []) a e = ap (λ (t : List ℕ). t ∷ []) (value_is b a e)
-one_is fs a e = absurd cc
-
-pub two_is : (fs : List (List ℕ)) (v : List ℕ × List ℕ) → two fs ≡ Ok v → fs ≡ v.0 ∷ v.1 ∷ []
-two_is (a ∷ b ∷ []) v e = ap (λ (w : List ℕ × List ℕ). w.0 ∷ w.1 ∷ []) (value_is (a, b) v e)
-two_is fs v e = absurd cc
-
--- fields after a word
-pub after_is : (word : List ℕ) (fs gs : List (List ℕ)) → after word fs ≡ Ok gs → fs ≡ word ∷ gs
-after_is word (w ∷ f ∷ fs) gs e =
-    let t = tested _ _ gs e in
-    let first = word_is w word t.0 in
-    let others = value_is (f ∷ fs) gs t.1 in
-    cc
-after_is word fs gs e = absurd cc
-
 -- lists of fields that are the same
-pub two_fields : (a b a' b' : List ℕ) → a ≡ a' → b ≡ b' → a ∷ b ∷ [] ≡ a' ∷ b' ∷ []
-two_fields a b a' b' p q = cc
-
-pub three_fields : (a b c a' b' c' : List ℕ) → a ≡ a' → b ≡ b' → c ≡ c' → a ∷ b ∷ c ∷ [] ≡ a' ∷ b' ∷ c' ∷ []
-three_fields a b c a' b' c' p q r = cc
+infixr 20 ◌∷≡◌
+pub ◌∷≡◌ : {f g : List ℕ} {fs gs : List (List ℕ)} → f ≡ g → fs ≡ gs → f ∷ fs ≡ g ∷ gs
+p ∷≡ q = cc

@@ -1,5 +1,5 @@
 -- The kind of live edges.
-use Rattle.std.proofs.Common.{◌≡◌, ℕ, ℤ, pos, ◌≤◌, ◌^◌, true, eqb, cond, List, [], ◌∷◌, ◌++◌, ◌==◌, ◌&&◌, Ok, Err, unsigned_abs, inl, inr, refl, sym, ap, subst, ◌∙◌, arith, codes, bytes_eq}
+use Rattle.std.proofs.Common.{◌≡◌, ℕ, ℤ, pos, ◌≤◌, ◌^◌, true, eqb, cond, List, [], ◌∷◌, ◌++◌, ◌==◌, ◌&&◌, Ok, Err, unsigned_abs, inl, inr, refl, sym, ap, subst, arith, codes, bytes_eq}
 use Rattle.std.specs.List.{list_all}
 use Rattle.std.proofs.lemmas.Bool.{and_parts, and_from, eqb-true, eq-eqb}
 use Rattle.std.proofs.lemmas.Int.{ints}
@@ -19,20 +19,9 @@ use Rattle.cert_text.specs.Texts.{edge_fields, price_fields, live_fields}
 use Rattle.cert_text.specs.Within.{IsUpto, IsBetween, IsEdgeRow, ArePrices, IsLiveRow}
 use Rattle.cert_text.proofs.Cutting.{is_plain}
 use Rattle.cert_text.proofs.FieldTexts.{amount_takes, amount_found, amount_plain, between_size}
-use Rattle.cert_text.proofs.LineKinds.{IsKind, both_ok, bind_ok, chosen, tested, word_is, one_is}
+use Rattle.cert_text.proofs.LineKinds.{IsKind, ◌∷≡◌, both_ok, bind_ok, chosen, tested, word_is}
 use Rattle.cert_text.proofs.RowKinds.{ends_takes, ends_found, ends_plain}
 use Rattle.cert_text.proofs.Shapes.{value_is}
-
-four_fields : (a b c d a' b' d' : List ℕ) → a ≡ a' → b ≡ b' → d ≡ d' → a ∷ b ∷ c ∷ d ∷ [] ≡ a' ∷ b' ∷ c ∷ d' ∷ []
-four_fields a b c d a' b' d' p q s = cc
-
-six_fields : (a b c d e f a' b' c' d' e' f' : List ℕ) → a ≡ a' → b ≡ b' → c ≡ c' → d ≡ d' → e ≡ e' → f ≡ f'
-    → a ∷ b ∷ c ∷ d ∷ e ∷ f ∷ [] ≡ a' ∷ b' ∷ c' ∷ d' ∷ e' ∷ f' ∷ []
-six_fields a b c d e f a' b' c' d' e' f' p q r s t u = cc
-
-three_is : (fs : List (List ℕ)) (v : List ℕ × List ℕ × List ℕ) → three fs ≡ Ok v → fs ≡ v.0 ∷ v.1 ∷ v.2 ∷ []
-three_is (a ∷ b ∷ c ∷ []) v e = ap (λ (w : List ℕ × List ℕ × List ℕ). w.0 ∷ w.1 ∷ w.2 ∷ []) (value_is (a, b, c) v e)
-three_is fs v e = absurd cc
 
 -- an edge with one amount, of a kind with this word
 one_takes : (limits : Limits) → limits.points ≤ 2 ^ 32 → (kind : LineKind) (word : List ℕ) (most : ℕ)
@@ -40,31 +29,31 @@ one_takes : (limits : Limits) → limits.points ≤ 2 ^ 32 → (kind : LineKind)
     → (a b : List ℕ) (amounts : List (List ℕ)) (l : PriceLine)
     → (one amounts >>= λ value. one_amount kind (ends_in limits a b) (amount_upto most value)) ≡ Ok l
     → (a ∷ b ∷ word ∷ amounts ≡ live_fields l) × IsLiveRow limits.version limits.points l
-one_takes limits few kind word most spelled prices a b amounts l e =
-    let v = bind_ok _ _ l e in
-    let w = bind_ok _ _ l v.2 in
+one_takes limits few kind word most spelled prices a b (value ∷ []) l e =
+    let w = bind_ok _ _ l e in
     let p = both_ok _ _ w.0 w.1 in
     let ends = ends_takes limits few a b w.0.0 p.0 in
-    let n = amount_takes _ _ v.0 w.0.1 p.1 in
-    subst (λ (m : PriceLine). (a ∷ b ∷ word ∷ amounts ≡ live_fields m) × IsLiveRow limits.version limits.points m) (value_is _ l w.2)
-    (ap (λ (fs : List (List ℕ)). a ∷ b ∷ word ∷ fs) (one_is amounts v.0 v.1) ∙ rw (spelled w.0.1) (four_fields _ _ _ _ _ _ _ ends.0 ends.1 n.0), record { edge = ends.2; prices = prices w.0.1 n.1 })
+    let n = amount_takes _ _ value w.0.1 p.1 in
+    subst (λ (m : PriceLine). (a ∷ b ∷ word ∷ value ∷ [] ≡ live_fields m) × IsLiveRow limits.version limits.points m) (value_is _ l w.2)
+    (rw (spelled w.0.1) (ends.0 ∷≡ ends.1 ∷≡ refl ∷≡ n.0 ∷≡ refl), record { edge = ends.2; prices = prices w.0.1 n.1 })
+one_takes limits few kind word most spelled prices a b amounts l e = absurd cc
 
 -- an edge of the skeleton
 skeleton_takes : (limits : Limits) → limits.points ≤ 2 ^ 32 → limits.version ≡ 2 → (a b kind : List ℕ) (amounts : List (List ℕ)) (l : PriceLine) → kind ≡ codes "s"
     → (three amounts >>= λ v. three_amounts (ends_in limits a b) (amount_upto most_price v.0) (amount_within (pos 0) (pos most_anchor) v.1) (amount_within (pos 0) (pos most_anchor) v.2)) ≡ Ok l
     → (a ∷ b ∷ kind ∷ amounts ≡ live_fields l) × IsLiveRow limits.version limits.points l
-skeleton_takes limits few two a b kind amounts l is e =
-    let v = bind_ok _ _ l e in
-    let w = bind_ok _ _ l v.2 in
+skeleton_takes limits few two a b kind (value ∷ left ∷ right ∷ []) l is e =
+    let w = bind_ok _ _ l e in
     let p = both_ok _ _ w.0 w.1 in
     let q = both_ok _ _ w.0.0 p.0 in
     let r = both_ok _ _ w.0.0.0 q.0 in
     let ends = ends_takes limits few a b w.0.0.0.0 r.0 in
-    let n = amount_takes _ _ v.0.0 w.0.0.0.1 r.1 in
-    let m = amount_takes _ _ v.0.1 w.0.0.1 q.1 in
-    let k = amount_takes _ _ v.0.2 w.0.1 p.1 in
-    subst (λ (m : PriceLine). (a ∷ b ∷ kind ∷ amounts ≡ live_fields m) × IsLiveRow limits.version limits.points m) (value_is _ l w.2)
-    (ap (λ (fs : List (List ℕ)). a ∷ b ∷ kind ∷ fs) (three_is amounts v.0 v.1) ∙ six_fields _ _ _ _ _ _ _ _ _ _ _ _ ends.0 ends.1 is n.0 m.0 k.0, record { edge = ends.2; prices = (two, n.1, m.1, k.1) })
+    let n = amount_takes _ _ value w.0.0.0.1 r.1 in
+    let m = amount_takes _ _ left w.0.0.1 q.1 in
+    let k = amount_takes _ _ right w.0.1 p.1 in
+    subst (λ (m : PriceLine). (a ∷ b ∷ kind ∷ value ∷ left ∷ right ∷ [] ≡ live_fields m) × IsLiveRow limits.version limits.points m) (value_is _ l w.2)
+    (ends.0 ∷≡ ends.1 ∷≡ is ∷≡ n.0 ∷≡ m.0 ∷≡ k.0 ∷≡ refl, record { edge = ends.2; prices = (two, n.1, m.1, k.1) })
+skeleton_takes limits few two a b kind amounts l is e = absurd cc
 
 live_takes : (limits : Limits) → limits.points ≤ 2 ^ 32 → (fs : List (List ℕ)) (l : PriceLine) → live_in limits fs ≡ Ok l → (fs ≡ live_fields l) × IsLiveRow limits.version limits.points l
 unfolding live_in

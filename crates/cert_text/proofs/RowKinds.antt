@@ -10,7 +10,7 @@ use Rattle.cert_text.specs.Texts.{point_fields, hull_fields, edge_fields, tri_fi
 use Rattle.cert_text.specs.Within.{IsPointRow, IsHullRow, IsEdgeRow, IsTriRow}
 use Rattle.cert_text.proofs.Cutting.{is_plain}
 use Rattle.cert_text.proofs.FieldTexts.{number_takes, number_found, number_plain, coordinate_takes, coordinate_found, coordinate_plain}
-use Rattle.cert_text.proofs.LineKinds.{IsKind, both_ok, bind_ok, two_fields, three_fields}
+use Rattle.cert_text.proofs.LineKinds.{IsKind, ◌∷≡◌, both_ok, bind_ok}
 use Rattle.cert_text.proofs.Shapes.{value_is, edge_again, edge_takes, tri_again, tri_takes}
 
 -- points
@@ -24,7 +24,7 @@ point_takes (id ∷ x ∷ y ∷ []) p e =
     let j = coordinate_takes x w.0.0.1 a.1 in
     let k = coordinate_takes y w.0.1 b.1 in
     subst (λ (q : Point). (id ∷ x ∷ y ∷ [] ≡ point_fields q) × IsPointRow q) (value_is _ p w.2) (
-      three_fields _ _ _ _ _ _ i.0 j.0 k.0,
+      i.0 ∷≡ j.0 ∷≡ k.0 ∷≡ refl,
       record { id = i.1.most; place = record { left = j.1.least; right = j.1.most; low = k.1.least; high = k.1.most } },
     )
 point_takes fs p e = absurd cc
@@ -60,7 +60,7 @@ index_plain limits n few h = number_plain n (omega arith)
 
 hull_takes : (limits : Limits) → limits.points ≤ 2 ^ 32 → (fs : List (List ℕ)) (u : ℕ) → hull_in limits fs ≡ Ok u → (fs ≡ hull_fields u) × IsHullRow limits.points u
 unfolding hull_in
-hull_takes limits few (t ∷ []) u e = let k = index_takes limits t u few e in (ap (λ (f : List ℕ). f ∷ []) k.0, k.1)
+hull_takes limits few (t ∷ []) u e = let k = index_takes limits t u few e in (k.0 ∷≡ refl, k.1)
 hull_takes limits few fs u e = absurd cc
 
 hull_found : (limits : Limits) → limits.points ≤ 2 ^ 32 → (u : ℕ) → IsHullRow limits.points u → hull_in limits (hull_fields u) ≡ Ok u
@@ -98,7 +98,7 @@ ends_plain limits few e h = let l = e.ascending in (index_plain limits e.a few (
 
 line_takes : (limits : Limits) → limits.points ≤ 2 ^ 32 → (fs : List (List ℕ)) (e : Edge) → edge_in limits fs ≡ Ok e → (fs ≡ edge_fields e) × IsEdgeRow limits.points e
 unfolding edge_in
-line_takes limits few (a ∷ b ∷ []) e h = let k = ends_takes limits few a b e h in (two_fields _ _ _ _ k.0 k.1, k.2)
+line_takes limits few (a ∷ b ∷ []) e h = let k = ends_takes limits few a b e h in (k.0 ∷≡ k.1 ∷≡ refl, k.2)
 line_takes limits few fs e h = absurd cc
 
 line_found : (limits : Limits) → limits.points ≤ 2 ^ 32 → (e : Edge) → IsEdgeRow limits.points e → edge_in limits (edge_fields e) ≡ Ok e
@@ -124,7 +124,7 @@ corners_take limits few (a ∷ b ∷ c ∷ []) t h =
     let j = index_takes limits b w.0.0.1 few q.1 in
     let k = index_takes limits c w.0.1 few p.1 in
     let corners = tri_takes w.0.0.0 w.0.0.1 w.0.1 t w.2 in (
-      three_fields _ _ _ _ _ _ (i.0 ∙ ap decimal (sym corners.0)) (j.0 ∙ ap decimal (sym corners.1)) (k.0 ∙ ap decimal (sym corners.2)),
+      (i.0 ∙ ap decimal (sym corners.0)) ∷≡ (j.0 ∙ ap decimal (sym corners.1)) ∷≡ (k.0 ∙ ap decimal (sym corners.2)) ∷≡ refl,
       record { b = rw corners.1 j.1; c = rw corners.2 k.1 },
     )
 corners_take limits few fs t h = absurd cc

@@ -9,14 +9,14 @@ use Rattle.length_enclosure.specs.Amount.{amount}
 use Rattle.cert_text.specs.declared.found.Flaw.TheVariants.{NotSpelled}
 use Rattle.cert_text.specs.declared.report.Method.{Method}
 use Rattle.cert_text.specs.declared.report.Method.TheVariants.{Flips, Faces}
-use Rattle.cert_text.specs.Cuts.{one, two, after}
+use Rattle.cert_text.specs.Cuts.{after}
 use Rattle.cert_text.specs.Found.{◌>>=◌, Found}
 use Rattle.cert_text.specs.Lines.{count_in, diamond_of, diamond_in, method_of, method_in, length_end_in, length_in, amount_line_in, end_in}
 use Rattle.cert_text.specs.Texts.{diamond_word, method_word}
 use Rattle.cert_text.specs.Within.{IsFrom, IsUpto}
 use Rattle.cert_text.proofs.Cutting.{is_plain}
 use Rattle.cert_text.proofs.FieldTexts.{number_takes, number_found, number_plain, amount_takes, amount_found, amount_plain, between_size}
-use Rattle.cert_text.proofs.LineKinds.{IsKind, both_ok, bind_ok, chosen, tested, word_is, word_same, one_is, two_is, after_is, three_fields}
+use Rattle.cert_text.proofs.LineKinds.{IsKind, ◌∷≡◌, both_ok, bind_ok, chosen, tested, word_is, word_same}
 use Rattle.cert_text.proofs.Shapes.{value_is}
 
 -- a field that says the values that are In, each spelled in one way
@@ -25,15 +25,20 @@ pub record IsField {X : Type 0} (says : List ℕ → Found X) (spell : X → Lis
   pub found : (x : X) → In x → says (spell x) ≡ Ok x
   pub plain : (x : X) → In x → is_plain (spell x) ≡ true
 
+word_takes : {X : Type 0} {says : List ℕ → Found X} {spell : X → List ℕ} {In : X → Type 0} → IsField says spell In
+    → (word : List ℕ) (fs : List (List ℕ)) (x : X) → (after word fs >>= says) ≡ Ok x → (fs ≡ word ∷ spell x ∷ []) × In x
+word_takes {says = says} k word (w ∷ t ∷ []) x e =
+    let v = bind_ok _ says x e in
+    let f = tested _ _ v.0 v.1 in
+    let s = k.takes v.0 x v.2 in
+    (word_is w word f.0 ∷≡ (value_is _ _ f.1 ∙ s.0) ∷≡ refl, s.1)
+word_takes k word fs x e = absurd cc
+
 -- a word and a field
 word_kind : {X : Type 0} {says : List ℕ → Found X} {spell : X → List ℕ} {In : X → Type 0} → IsField says spell In → (word : List ℕ) → is_plain word ≡ true
-    → IsKind (λ fs. after word fs >>= one >>= says) (λ x. word ∷ spell x ∷ []) In
-word_kind {X = X} {says = says} {spell = spell} k word plain = record {
-  takes = λ fs x e.
-      let v = bind_ok (after word fs >>= one) says x e in
-      let w = bind_ok (after word fs) one v.0 v.1 in
-      let t = k.takes v.0 x v.2 in
-      (after_is word fs w.0 w.1 ∙ ap (λ (gs : List (List ℕ)). word ∷ gs) (one_is w.0 v.0 w.2) ∙ ap (λ (t : List ℕ). word ∷ t ∷ []) t.0, t.1);
+    → IsKind (λ fs. after word fs >>= says) (λ x. word ∷ spell x ∷ []) In
+word_kind k word plain = record {
+  takes = word_takes k word;
   found = λ x h. rw (word_same word, k.found x h) refl;
   plain = λ x h. and_from _ _ plain (and_from _ _ (k.plain x h) refl);
   some = λ x. omega arith;
@@ -127,17 +132,15 @@ end_found n h = amount_found _ _ (pos n) (omega arith) (record { least = omega (
 
 length_takes : (fs : List (List ℕ)) (ends : ℕ × ℕ) → length_in fs ≡ Ok ends → (fs ≡ ends_fields ends) × AreEnds ends
 unfolding length_in
-length_takes fs ends e =
-    let f = bind_ok (after (codes "length") fs >>= two) _ ends e in
-    let w = bind_ok (after (codes "length") fs) two f.0 f.1 in
-    let v = bind_ok _ _ ends f.2 in
+length_takes (w ∷ lo ∷ hi ∷ []) ends e =
+    let k = tested _ _ ends e in
+    let v = bind_ok _ _ ends k.1 in
     let p = both_ok _ _ v.0 v.1 in
-    let a = end_takes f.0.0 v.0.0 p.0 in
-    let b = end_takes f.0.1 v.0.1 p.1 in
-    subst (λ (x : ℕ × ℕ). (fs ≡ ends_fields x) × AreEnds x) (value_is _ ends v.2) (
-      after_is (codes "length") fs w.0 w.1 ∙ ap (λ (gs : List (List ℕ)). codes "length" ∷ gs) (two_is w.0 f.0 w.2) ∙ three_fields _ _ _ _ _ _ refl a.0 b.0,
-      record { lo = a.1; hi = b.1 },
-    )
+    let a = end_takes lo v.0.0 p.0 in
+    let b = end_takes hi v.0.1 p.1 in
+    subst (λ (x : ℕ × ℕ). (w ∷ lo ∷ hi ∷ [] ≡ ends_fields x) × AreEnds x) (value_is _ ends v.2)
+    (word_is w (codes "length") k.0 ∷≡ a.0 ∷≡ b.0 ∷≡ refl, record { lo = a.1; hi = b.1 })
+length_takes fs ends e = absurd cc
 
 length_found : (ends : ℕ × ℕ) → AreEnds ends → length_in (ends_fields ends) ≡ Ok ends
 unfolding length_in
@@ -168,7 +171,7 @@ last_takes : (fs : List (List ℕ)) (u : Unit {0}) → end_in fs ≡ Ok u → (f
 unfolding end_in
 last_takes (w ∷ []) u e =
     let k = tested _ _ u e in
-    (ap (λ (t : List ℕ). t ∷ []) (word_is w (codes "end") k.0), tt)
+    (word_is w (codes "end") k.0 ∷≡ refl, tt)
 last_takes fs u e = absurd cc
 
 pub end_kind : IsKind end_in (λ u. codes "end" ∷ []) Any

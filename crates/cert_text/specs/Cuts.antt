@@ -29,7 +29,6 @@ abbrev pub three : List (List ℕ) → Found (List ℕ × List ℕ × List ℕ)
 three (a ∷ rest) = two rest >>= λ v. Ok (a, v.0, v.1)
 three [] = Err NotSpelled
 
--- the fields after a word, if there are any
-abbrev pub after : List ℕ → List (List ℕ) → Found (List (List ℕ))
-after word (w ∷ a ∷ rest) = if bytes_eq w word then Ok (a ∷ rest) else Err NotSpelled
-after word _ = Err NotSpelled
+-- the field after a word, of exactly these two
+abbrev pub after : List ℕ → List (List ℕ) → Found (List ℕ)
+after word fields = two fields >>= λ f. if bytes_eq f.0 word then Ok f.1 else Err NotSpelled

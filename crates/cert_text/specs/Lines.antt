@@ -91,14 +91,14 @@ live_in limits _ = Err NotSpelled
 
 -- a word and a number
 unfoldable pub count_in : List ℕ → ℕ → ℕ → List (List ℕ) → Found ℕ
-count_in word low end fields = after word fields >>= one >>= number_in low end
+count_in word low end fields = after word fields >>= number_in low end
 
 abbrev pub diamond_of : List ℕ → Found Diamond
 diamond_of word =
     if bytes_eq word (codes "on") then Ok On else if bytes_eq word (codes "off") then Ok Off else Err NotSpelled
 
 unfoldable pub diamond_in : List (List ℕ) → Found Diamond
-diamond_in fields = after (codes "diamond") fields >>= one >>= diamond_of
+diamond_in fields = after (codes "diamond") fields >>= diamond_of
 
 -- how the triangulation was found; only version 2 has the method faces
 abbrev pub method_of : ℕ → List ℕ → Found Method
@@ -108,17 +108,17 @@ method_of version word =
     else Err NotSpelled
 
 unfoldable pub method_in : ℕ → List (List ℕ) → Found Method
-method_in version fields = after (codes "method") fields >>= one >>= method_of version
+method_in version fields = after (codes "method") fields >>= method_of version
 
 abbrev pub length_end_in : List ℕ → Found ℤ
 length_end_in text = amount_within (pos 0) (pos most_length) text
 
 -- the two ends of an enclosure
 unfoldable pub length_in : List (List ℕ) → Found (ℕ × ℕ)
-length_in fields = do
-  f ← after (codes "length") fields >>= two
-  v ← both (length_end_in f.0) (length_end_in f.1)
-  Ok (unsigned_abs v.0, unsigned_abs v.1)
+length_in fields = three fields >>= λ f.
+    if bytes_eq f.0 (codes "length") then
+    (both (length_end_in f.1) (length_end_in f.2) >>= λ v. Ok (unsigned_abs v.0, unsigned_abs v.1))
+    else Err NotSpelled
 
 -- the most millionths of a bound and of a gap
 abbrev pub most_bound : ℕ → ℕ
@@ -126,7 +126,7 @@ most_bound version = if version == 1 then 2 * 10 ^ 22 else 10 ^ 24
 
 -- a word and an amount of at most this size
 unfoldable pub amount_line_in : List ℕ → ℕ → List (List ℕ) → Found ℤ
-amount_line_in word most fields = after word fields >>= one >>= amount_upto most
+amount_line_in word most fields = after word fields >>= amount_upto most
 
 unfoldable pub end_in : List (List ℕ) → Found (Unit {0})
 end_in fields = one fields >>= λ word. if bytes_eq word (codes "end") then Ok tt else Err NotSpelled

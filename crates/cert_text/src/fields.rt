@@ -19,10 +19,8 @@ pub fn cut(text: &[u8], byte: u8) -> Option<(&[u8], &[u8])>
     ensures parts { option_map (λ parts. (parts.0.now, parts.1.now)) result ≡ cut byte text.now }
     ensures len { IfSome result (λ parts. length parts.0.now + 1 + length parts.1.now ≡ length text.now) }
 {
-    match position_of(text, byte) {
-        Some(n) => Some((&text[..n], &text[n + 1..])),
-        None => None,
-    }
+    let n = position_of(text, byte)?;
+    Some((&text[..n], &text[n + 1..]))
 }
 
 pub fn is_word(text: &[u8], word: &[u8]) -> bool
@@ -43,7 +41,8 @@ pub fn first(line: &[u8]) -> Found<(&[u8], &[u8])>
 /// The field of a line with exactly one.
 #[tactic(auto, using(crate::proofs::Cutting::one_more))]
 pub fn one(line: &[u8]) -> Found<&[u8]>
-    ensures { MatchResult result (λ a. one (fields line.now) ≡ Ok a.now) (λ flaw. one (fields line.now) ≡ Err flaw) }
+    ensures { MatchResult result (λ a. one (fields line.now) ≡ Ok a.now)
+        (λ flaw. one (fields line.now) ≡ Err flaw) }
 {
     match first(line) {
         Ok(_) => Err(Flaw::NotSpelled),
@@ -53,7 +52,8 @@ pub fn one(line: &[u8]) -> Found<&[u8]>
 
 /// The fields of a line with exactly two.
 pub fn two(line: &[u8]) -> Found<(&[u8], &[u8])>
-    ensures { MatchResult result (λ v. two (fields line.now) ≡ Ok (v.0.now, v.1.now)) (λ flaw. two (fields line.now) ≡ Err flaw) }
+    ensures { MatchResult result (λ v. two (fields line.now) ≡ Ok (v.0.now, v.1.now))
+        (λ flaw. two (fields line.now) ≡ Err flaw) }
 {
     let (a, rest) = first(line)?;
     Ok((a, one(rest)?))
@@ -61,21 +61,22 @@ pub fn two(line: &[u8]) -> Found<(&[u8], &[u8])>
 
 /// The fields of a line with exactly three.
 pub fn three(line: &[u8]) -> Found<(&[u8], &[u8], &[u8])>
-    ensures { MatchResult result (λ v. three (fields line.now) ≡ Ok (v.0.now, v.1.now, v.2.now)) (λ flaw. three (fields line.now) ≡ Err flaw) }
+    ensures { MatchResult result (λ v. three (fields line.now) ≡ Ok (v.0.now, v.1.now, v.2.now))
+        (λ flaw. three (fields line.now) ≡ Err flaw) }
 {
     let (a, rest) = first(line)?;
     let (b, c) = two(rest)?;
     Ok((a, b, c))
 }
 
-/// What stands after the word that a line begins with.
-#[tactic(auto, using(crate::proofs::Cutting::after_first))]
+/// The field after this word, in a line with exactly the two.
 pub fn after<'a>(word: &[u8], line: &'a [u8]) -> Found<&'a [u8]>
-    ensures { MatchResult result (λ rest. after word.now (fields line.now) ≡ Ok (fields rest.now)) (λ flaw. after word.now (fields line.now) ≡ Err flaw) }
+    ensures { MatchResult result (λ a. after word.now (fields line.now) ≡ Ok a.now)
+        (λ flaw. after word.now (fields line.now) ≡ Err flaw) }
 {
-    let (first, rest) = first(line)?;
+    let (first, field) = two(line)?;
     if is_word(first, word) {
-        Ok(rest)
+        Ok(field)
     } else {
         Err(Flaw::NotSpelled)
     }

@@ -4,7 +4,7 @@ ghost use Rattle.mwt_base.specs.Limits.{most_amount};
 ghost use Rattle.cert_text.specs.Cuts.{fields};
 ghost use Rattle.cert_text.specs.Lines.{count_in, diamond_of, diamond_in, method_of, method_in, length_in, amount_line_in, end_in};
 
-use crate::fields::{after, is_word, one, two};
+use crate::fields::{after, is_word, one, three};
 use crate::found::{Flaw, Found, both};
 use crate::numbers::{amount_within, number_in};
 use crate::report::Method;
@@ -18,8 +18,7 @@ pub fn count_in(word: &[u8], low: u32, end: u64, line: &[u8]) -> Found<u32>
     requires { end ≤ 2 ^ 32 }
     ensures { result ≡ count_in word.now low end (fields line.now) }
 {
-    let number = one(after(word, line)?)?;
-    number_in(number, low, end)
+    number_in(after(word, line)?, low, end)
 }
 
 fn diamond_of(word: &[u8]) -> Found<Diamond>
@@ -39,7 +38,7 @@ fn diamond_of(word: &[u8]) -> Found<Diamond>
 pub fn diamond_in(line: &[u8]) -> Found<Diamond>
     ensures { result ≡ diamond_in (fields line.now) }
 {
-    diamond_of(one(after(b"diamond", line)?)?)
+    diamond_of(after(b"diamond", line)?)
 }
 
 fn method_of(version: u32, word: &[u8]) -> Found<Method>
@@ -59,7 +58,7 @@ fn method_of(version: u32, word: &[u8]) -> Found<Method>
 pub fn method_in(version: u32, line: &[u8]) -> Found<Method>
     ensures { result ≡ method_in version (fields line.now) }
 {
-    method_of(version, one(after(b"method", line)?)?)
+    method_of(version, after(b"method", line)?)
 }
 
 /// The two ends of an enclosure.
@@ -67,7 +66,10 @@ pub fn method_in(version: u32, line: &[u8]) -> Found<Method>
 pub fn length_in(line: &[u8]) -> Found<(u128, u128)>
     ensures { result ≡ length_in (fields line.now) }
 {
-    let (lo, hi) = two(after(b"length", line)?)?;
+    let (first, lo, hi) = three(line)?;
+    if !is_word(first, b"length") {
+        return Err(Flaw::NotSpelled);
+    }
     let (lo, hi) = both(
         amount_within(lo, 0, MOST_LENGTH),
         amount_within(hi, 0, MOST_LENGTH),
@@ -81,7 +83,7 @@ pub fn amount_line_in(word: &[u8], most: u128, line: &[u8]) -> Found<i128>
     requires { most ≤ most_amount }
     ensures { result ≡ amount_line_in word.now most (fields line.now) }
 {
-    let amount = one(after(word, line)?)?;
+    let amount = after(word, line)?;
     let most = most as i128;
     amount_within(amount, -most, most)
 }
