@@ -1,9 +1,10 @@
 -- How a text is cut at a byte.
-use Rattle.std.proofs.Common.{◌≡◌, ℕ, suc, ◌+◌, ◌<◌, ◌≤◌, Bool, true, false, not, ltb, List, [], ◌∷◌, ◌++◌, length, take, drop, Option, Some, None, inl, inr, refl, sym, ap, ◌∙◌, arith}
+use Rattle.std.proofs.Common.{◌≡◌, ℕ, suc, ◌+◌, ◌<◌, ◌≤◌, Bool, true, false, not, ltb, List, [], ◌∷◌, ◌++◌, length, take, drop, Option, Some, None, Err, inl, inr, refl, sym, ap, ◌∙◌, arith}
 use Rattle.std.specs.List.{list_all, position_or_len, onto_first, join_with_byte}
 use Rattle.std.proofs.lemmas.Bool.{cases_Bool, and_parts, and_from, not-true, not_from_false, lt-ltb, le-ltb, eqb-true, eq-eqb, ne_eqb, cases_lt, ltb-true}
 use Rattle.std.proofs.lemmas.List.Splits.{slice_split-cons_yes, slice_split-cons_no, join_with_byte-slice_split}
-use Rattle.cert_text.specs.Cuts.{is_byte, cut, fields}
+use Rattle.cert_text.specs.declared.found.Flaw.TheVariants.{NotSpelled}
+use Rattle.cert_text.specs.Cuts.{is_byte, cut, fields, one}
 
 -- a text is cut as its rest is, after a byte that is another
 abbrev pub put_before : ℕ → Option (List ℕ × List ℕ) → Option (List ℕ × List ℕ)
@@ -90,6 +91,13 @@ fields_cut (b ∷ bs) = elim (cases_Bool (is_byte 32 b)) [
   behind : (o : Option (List ℕ × List ℕ)) → onto_first b (fields_by bs o) ≡ fields_by (b ∷ bs) (put_before b o)
   behind None = refl
   behind (Some p) = refl
+
+-- after a first field there is another
+pub one_more : (f t : List ℕ) → one (f ∷ fields t) ≡ Err NotSpelled
+one_more f t = rw (fields_cut t) (go (cut 32 t)) where
+  go : (o : Option (List ℕ × List ℕ)) → one (f ∷ fields_by t o) ≡ Err NotSpelled
+  go None = refl
+  go (Some p) = refl
 
 -- the fields of a text, with a space between each two, are the text
 pub fields_joined : (t : List ℕ) → join_with_byte 32 (fields t) ≡ t

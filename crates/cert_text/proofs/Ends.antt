@@ -9,13 +9,15 @@ use Rattle.cert_text.specs.declared.refusal.Refusal2.{Refusal2}
 use Rattle.cert_text.specs.declared.refusal.Reason.TheVariants.{Version}
 use Rattle.cert_text.specs.Reasons.{refused}
 use Rattle.cert_text.specs.Lines.{count_in, diamond_in, method_in, length_in, amount_line_in, end_in, most_bound}
-use Rattle.cert_text.specs.Reading.{◌>>=◌, Place, line_at, version_by, version_at, value_at}
+use Rattle.cert_text.specs.Found.{◌>>=◌}
+use Rattle.cert_text.specs.Reading.{Place, line_at, version_by, version_at, value_at}
 use Rattle.cert_text.specs.Texts.{spaced, lines_text, count_line, diamond_word, method_word}
 use Rattle.cert_text.specs.Whole.{head_at, tail_at}
 use Rattle.cert_text.specs.Within.{IsFrom, IsUpto}
 use Rattle.cert_text.proofs.Cutting.{cut_again}
-use Rattle.cert_text.proofs.LineKinds.{chosen, word_is}
-use Rattle.cert_text.proofs.Taking.{Took, took_then, text_first, bind_ok, ok_is, line_takes, value_takes, value_found, Reaches}
+use Rattle.cert_text.proofs.LineKinds.{chosen, word_is, bind_ok}
+use Rattle.cert_text.proofs.Shapes.{value_is}
+use Rattle.cert_text.proofs.Taking.{Took, took_then, text_first, line_takes, value_takes, value_found, Reaches}
 use Rattle.cert_text.proofs.WordKinds.{count_kind, diamond_kind, HasMethod, method_kind, length_kind, AreEnds, amount_kind, end_kind}
 
 -- the version line
@@ -30,11 +32,11 @@ version_ok l v e =
     let test = bytes_eq l (codes "mwt 2") in
     elim (chosen (bytes_eq l (codes "mwt 1")) one (cond test two none) (Ok v) e) [
       | inl h ↦
-          let same = ok_is 1 v h.1 in
+          let same = value_is 1 v h.1 in
           (word_is l (codes "mwt 1") h.0 ∙ sym (version_line 1 (omega arith)) ∙ ap (count_line (codes "mwt")) same, inl (sym same))
       | inr other ↦ elim (chosen test two none (Ok v) other.1) [
         | inl h ↦
-            let same = ok_is 2 v h.1 in
+            let same = value_is 2 v h.1 in
             (word_is l (codes "mwt 2") h.0 ∙ sym (version_line 2 (omega arith)) ∙ ap (count_line (codes "mwt")) same, inr (sym same))
         | inr last ↦ absurd (let wrong = last.1 in cc)
       ]
@@ -49,7 +51,7 @@ version_takes bytes x e =
     let b = bind_ok (version_by a.0.0) (λ v. Ok (v, a.0.1)) x a.2 in
     let t = version_ok a.0.0 b.0 b.1 in
     let made : ℕ × Place = (b.0, a.0.1) in
-    subst (λ (y : ℕ × Place). Took bytes (count_line (codes "mwt") y.0 ∷ []) y.1.rest × ((y.0 ≡ 1) ⊎ (y.0 ≡ 2))) (ok_is made x b.2)
+    subst (λ (y : ℕ × Place). Took bytes (count_line (codes "mwt") y.0 ∷ []) y.1.rest × ((y.0 ≡ 1) ⊎ (y.0 ≡ 2))) (value_is made x b.2)
     (subst (λ (l : List ℕ). Took bytes (l ∷ []) a.0.1.rest) t.0 (line_takes begin a.0 a.1), t.1)
 
 version_found : (v : ℕ) → (v ≡ 1) ⊎ (v ≡ 2) → (rest : List ℕ) → Reaches (version_at (count_line (codes "mwt") v ++ 10 ∷ rest)) v rest
@@ -87,7 +89,7 @@ head_takes bytes x e =
     let unit = value_takes (count_kind (codes "unit") 0 (most_unit + 1) refl (omega arith)) b.0.1 c.0 c.1 in
     let merged = value_takes (count_kind (codes "merged") 0 (2 ^ 32) refl (omega arith)) c.0.1 d.0 d.1 in
     let made : Head × Place = (record { version = a.0.0; diamond = b.0.0; unit = c.0.0; merged = d.0.0 }, d.0.1) in
-    subst (λ (y : Head × Place). Took bytes (head_of y.0) y.1.rest × IsHead y.0) (ok_is made x d.2)
+    subst (λ (y : Head × Place). Took bytes (head_of y.0) y.1.rest × IsHead y.0) (value_is made x d.2)
     (took_then version.0 (took_then diamond.0 (took_then unit.0 merged.0)), record { version = version.1; unit = unit.1; merged = merged.1 })
 
 pub head_found : (h : Head) → IsHead h → (rest : List ℕ) → Reaches (head_at (lines_text (head_of h) ++ rest)) h rest
@@ -148,7 +150,7 @@ tail_takes version p x e =
     let gap = value_takes (amount_kind (codes "gap") most refl small) c.0.1 d.0 d.1 in
     let last = value_takes end_kind d.0.1 f.0 f.1 in
     let made : Tail × Place = (record { method = a.0.0; lo = b.0.0.0; hi = b.0.0.1; bound = c.0.0; gap = d.0.0 }, f.0.1) in
-    subst (λ (y : Tail × Place). Took p.rest (tail_of y.0) y.1.rest × IsTail version y.0) (ok_is made x f.2)
+    subst (λ (y : Tail × Place). Took p.rest (tail_of y.0) y.1.rest × IsTail version y.0) (value_is made x f.2)
     (took_then method.0 (took_then ends.0 (took_then bound.0 (took_then gap.0 last.0))), record { method = method.1; ends = ends.1; bound = bound.1; gap = gap.1 })
 
 pub tail_found : (version : ℕ) (t : Tail) → IsTail version t → (n : ℕ) (rest : List ℕ)

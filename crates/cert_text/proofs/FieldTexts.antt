@@ -1,5 +1,5 @@
 -- What a field says that is a number or an amount: what is read is spelled so, and what is spelled so is read.
-use Rattle.std.proofs.Common.{◌≡◌, ℕ, suc, ℤ, pos, negsuc, ◌/◌, ◌%◌, ◌^◌, ◌<◌, ◌≤◌, ◌≤ℤ◌, Bool, true, false, not, cond, ltb, leb, List, [], ◌∷◌, ◌++◌, unsigned_abs, refl, sym, subst, ◌∙◌, arith, decimal}
+use Rattle.std.proofs.Common.{◌≡◌, ℕ, suc, ℤ, pos, negsuc, ◌/◌, ◌%◌, ◌^◌, ◌<◌, ◌≤◌, ◌≤ℤ◌, Bool, true, false, not, cond, ltb, leb, List, [], ◌∷◌, ◌++◌, Ok, Err, unsigned_abs, refl, sym, subst, ◌∙◌, arith, decimal}
 use Rattle.std.specs.Fmt.{signed_decimal}
 use Rattle.std.specs.List.{list_all}
 use Rattle.std.specs.Prelude.{int_le}
@@ -15,24 +15,24 @@ use Rattle.length_enclosure.proofs.Digits.{number_spelled, number_again, is_numb
 use Rattle.length_enclosure.proofs.Signs.{with_sign, signed_spelled, signed_again}
 use Rattle.length_enclosure.proofs.Amounts.{amount_size_is, six_digits_are}
 use Rattle.length_enclosure.proofs.UnitTexts.{units_value}
-use Rattle.cert_text.specs.declared.found.Found.{Found}
-use Rattle.cert_text.specs.declared.found.Found.TheVariants.{NotSpelled, Is}
+use Rattle.cert_text.specs.declared.found.Flaw.TheVariants.{NotSpelled}
+use Rattle.cert_text.specs.Found.{Found}
 use Rattle.cert_text.specs.Numbers.{kept_if, number_in, coordinate_in, ranged, amount_within}
 use Rattle.cert_text.specs.Within.{IsFrom, IsBetween, IsUpto}
 use Rattle.cert_text.proofs.Cutting.{is_plain}
 use Rattle.cert_text.proofs.Shapes.{value_is}
 
 -- a value that is kept fits
-kept_ok : {A : Type 0} (b : Bool) (x y : A) → kept_if b x ≡ Is y → (b ≡ true) × (x ≡ y)
+kept_ok : {A : Type 0} (b : Bool) (x y : A) → kept_if b x ≡ Ok y → (b ≡ true) × (x ≡ y)
 kept_ok true x y e = (refl, value_is x y e)
 kept_ok false x y e = absurd cc
 
 -- a value that is found is spelled
-spelled_ok : {A : Type 0} (b : Bool) (f : Found A) (y : A) → cond (not b) NotSpelled f ≡ Is y → (b ≡ true) × (f ≡ Is y)
+spelled_ok : {A : Type 0} (b : Bool) (f : Found A) (y : A) → cond (not b) (Err NotSpelled) f ≡ Ok y → (b ≡ true) × (f ≡ Ok y)
 spelled_ok true f y e = (refl, e)
 spelled_ok false f y e = absurd cc
 
-pub number_takes : (low end : ℕ) (t : List ℕ) (n : ℕ) → end ≤ 2 ^ 32 → number_in low end t ≡ Is n → (t ≡ decimal n) × IsFrom low end n
+pub number_takes : (low end : ℕ) (t : List ℕ) (n : ℕ) → end ≤ 2 ^ 32 → number_in low end t ≡ Ok n → (t ≡ decimal n) × IsFrom low end n
 unfolding number_in
 number_takes low end t n few e =
     let s = spelled_ok (is_number t) _ n e in
@@ -43,7 +43,7 @@ number_takes low end t n few e =
     subst (λ (m : ℕ). (t ≡ decimal m) × IsFrom low end m) k.1
     (sym (number_spelled t s.0 (omega arith)), record { least = least; most = most })
 
-pub number_found : (low end n : ℕ) → end ≤ 2 ^ 32 → IsFrom low end n → number_in low end (decimal n) ≡ Is n
+pub number_found : (low end n : ℕ) → end ≤ 2 ^ 32 → IsFrom low end n → number_in low end (decimal n) ≡ Ok n
 unfolding number_in
 number_found low end n few h =
     let small : n < 2 ^ 64 = omega (arith, h.most) in
@@ -59,7 +59,7 @@ size_between m n h = record { least = omega (arith, ints); most = omega (arith, 
 pub between_size : (m : ℕ) (n : ℤ) → IsUpto m n → unsigned_abs n ≤ m
 between_size m n h = let l = h.least in let r = h.most in omega (arith, ints)
 
-pub coordinate_takes : (t : List ℕ) (n : ℤ) → coordinate_in t ≡ Is n → (t ≡ signed_decimal n) × IsUpto most_coordinate n
+pub coordinate_takes : (t : List ℕ) (n : ℤ) → coordinate_in t ≡ Ok n → (t ≡ signed_decimal n) × IsUpto most_coordinate n
 unfolding coordinate_in
 coordinate_takes t n e =
     let s = spelled_ok (is_signed is_number number t) _ n e in
@@ -68,7 +68,7 @@ coordinate_takes t n e =
     subst (λ (m : ℤ). (t ≡ signed_decimal m) × IsUpto most_coordinate m) k.1
     (sym (decimal_is (signed_in number t) ∙ signed_spelled number_spelling t s.0 (omega arith)), size_between most_coordinate _ small)
 
-pub coordinate_found : (n : ℤ) → IsUpto most_coordinate n → coordinate_in (signed_decimal n) ≡ Is n
+pub coordinate_found : (n : ℤ) → IsUpto most_coordinate n → coordinate_in (signed_decimal n) ≡ Ok n
 unfolding coordinate_in
 coordinate_found n h =
     let small = between_size most_coordinate n h in
@@ -81,7 +81,7 @@ int_le_true a b e = grind (arith, ints)
 int_le_from : (a b : ℤ) → a ≤ℤ b → int_le a b ≡ true
 int_le_from a b h = grind (arith, ints)
 
-ranged_ok : (low high : ℤ) (u : Units) (n : ℤ) → ranged low high u ≡ Is n → (u ≡ units.Value n) × IsBetween low high n
+ranged_ok : (low high : ℤ) (u : Units) (n : ℤ) → ranged low high u ≡ Ok n → (u ≡ units.Value n) × IsBetween low high n
 ranged_ok low high units.NoAmount n e = absurd cc
 ranged_ok low high units.Outside n e = absurd cc
 ranged_ok low high (units.Value m) n e =
@@ -90,14 +90,14 @@ ranged_ok low high (units.Value m) n e =
     subst (λ (z : ℤ). (units.Value m ≡ units.Value z) × IsBetween low high z) k.1
     (refl, record { least = int_le_true low m p.0; most = int_le_true m high p.1 })
 
-pub amount_takes : (low high : ℤ) (t : List ℕ) (n : ℤ) → amount_within low high t ≡ Is n → (t ≡ amount n) × IsBetween low high n
+pub amount_takes : (low high : ℤ) (t : List ℕ) (n : ℤ) → amount_within low high t ≡ Ok n → (t ≡ amount n) × IsBetween low high n
 unfolding amount_within
 amount_takes low high t n e =
     let r = ranged_ok low high (units_in t) n e in
     let both = units_value t n in
     ((both.0 r.0).1, r.1)
 
-pub amount_found : (low high n : ℤ) → unsigned_abs n ≤ most_amount → IsBetween low high n → amount_within low high (amount n) ≡ Is n
+pub amount_found : (low high n : ℤ) → unsigned_abs n ≤ most_amount → IsBetween low high n → amount_within low high (amount n) ≡ Ok n
 unfolding amount_within
 amount_found low high n small h =
     let both = units_value (amount n) n in

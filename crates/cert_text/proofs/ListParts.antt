@@ -18,7 +18,9 @@ use Rattle.cert_text.proofs.Orders.{IsChain}
 use Rattle.cert_text.proofs.RowOrders.{chain_from, chain_to, points_order, edges_order, live_order, tris_order, hull_order}
 use Rattle.cert_text.proofs.LiveKinds.{live_kind}
 use Rattle.cert_text.proofs.RowKinds.{points_kind, hull_kind, edges_kind, tris_kind}
-use Rattle.cert_text.proofs.Taking.{Took, took_then, text_then, text_first, bind_ok, ok_is, value_takes, value_found, Reaches}
+use Rattle.cert_text.proofs.LineKinds.{bind_ok}
+use Rattle.cert_text.proofs.Shapes.{value_is}
+use Rattle.cert_text.proofs.Taking.{Took, took_then, text_then, text_first, value_takes, value_found, Reaches}
 use Rattle.cert_text.proofs.WordKinds.{count_kind}
 
 -- the counts of a report are small
@@ -73,7 +75,7 @@ points_take version p x e =
     let hull = block_takes (hull_kind limits (points_few count points.1)) hull_may_follow (codes "hull") 3 (count + 1) refl (hull_few count points.1) a.0.1 u.0 u.1 in
     let candidates = value_takes (count_kind (codes "candidates") 0 (most_edges + 1) refl few_edges) u.0.1 c.0 c.1 in
     let made : PointPart × Place = (record { points = a.0.0; hull = u.0.0; candidates = c.0.0 }, c.0.1) in
-    subst (λ (y : PointPart × Place). Took p.rest (points_of y.0) y.1.rest × IsPointPart y.0) (ok_is made x c.2) (
+    subst (λ (y : PointPart × Place). Took p.rest (points_of y.0) y.1.rest × IsPointPart y.0) (value_is made x c.2) (
       took_then points.0 (took_then hull.0 candidates.0),
       record {
         points_count = points.1;
@@ -136,7 +138,7 @@ edges_take limits few p x e =
     let skeleton = block_takes (edges_kind limits few) edge_may_follow (codes "skeleton") 0 (most_edges + 1) refl few_edges l.0.1 s.0 s.1 in
     let tris = block_takes (tris_kind limits few) tri_may_follow (codes "triangles") 0 (most_tiles + 1) refl few_tris s.0.1 t.0 t.1 in
     let made : EdgePart × Place = (record { live = l.0.0; skeleton = s.0.0; tris = t.0.0 }, t.0.1) in
-    subst (λ (y : EdgePart × Place). Took p.rest (edges_of y.0) y.1.rest × IsEdgePart limits.version limits.points y.0) (ok_is made x t.2) (
+    subst (λ (y : EdgePart × Place). Took p.rest (edges_of y.0) y.1.rest × IsEdgePart limits.version limits.points y.0) (value_is made x t.2) (
       took_then live.0 (took_then skeleton.0 tris.0),
       record {
         live_count = live.1;

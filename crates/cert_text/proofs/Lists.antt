@@ -1,14 +1,14 @@
 -- Lists of a report with their counts.
 use Rattle.std.proofs.Common.{◌≡◌, ℕ, ◌+◌, ◌≤◌, ◌^◌, Bool, true, List, [], ◌∷◌, ◌++◌, length, None, Ok, refl, sym, ap, subst, ◌∙◌}
 use Rattle.std.specs.List.{AllByRecursion}
-use Rattle.cert_text.specs.declared.found.Found.{Found}
+use Rattle.cert_text.specs.Found.{Found}
 use Rattle.cert_text.specs.Lines.{count_in}
 use Rattle.cert_text.specs.Reading.{Place, value_at, rows_at, block_at}
 use Rattle.cert_text.specs.Texts.{lines_text, count_line, block}
 use Rattle.cert_text.specs.Within.{IsFrom}
 use Rattle.cert_text.proofs.Cutting.{is_plain}
-use Rattle.cert_text.proofs.LineKinds.{IsKind}
-use Rattle.cert_text.proofs.Taking.{Took, took_then, bind_ok, value_takes, value_found, rows_take, rows_found, IsFollowed, row_lines, Reaches, text_first}
+use Rattle.cert_text.proofs.LineKinds.{IsKind, bind_ok}
+use Rattle.cert_text.proofs.Taking.{Took, took_then, value_takes, value_found, rows_take, rows_found, IsFollowed, row_lines, Reaches, text_first}
 use Rattle.cert_text.proofs.WordKinds.{count_kind}
 
 -- a list that is read

@@ -1,11 +1,11 @@
 -- Reading rows one after the other, as a loop does.
 use Rattle.std.proofs.Common.{◌≡◌, ℕ, suc, ◌-◌, ◌+◌, ◌≤◌, ◌<◌, Bool, List, [], ◌∷◌, ◌++◌, Option, Some, Result, Ok, Err, refl, sym, ap, ◌∙◌, append_assoc, arith}
 use Rattle.std.proofs.lemmas.List.{append-nil}
-use Rattle.cert_text.specs.declared.found.Found.{Found}
 use Rattle.cert_text.specs.declared.refusal.Refusal2.{Refusal2}
 use Rattle.cert_text.specs.declared.refusal.ReportStop.{ReportStop}
 use Rattle.cert_text.specs.declared.refusal.ReportStop.TheVariants as stop
-use Rattle.cert_text.specs.Reading.{◌>>=◌, Fails, Place, row_at, rows_at}
+use Rattle.cert_text.specs.Found.{◌>>=◌, Found}
+use Rattle.cert_text.specs.Reading.{Fails, Place, row_at, rows_at}
 
 -- what was read before, and what is still read
 abbrev pub with_front : {X : Type 0} → List X → Result (List X × Place) Refusal2 → Result (List X × Place) Refusal2

@@ -26,7 +26,9 @@ use Rattle.cert_text.proofs.Ends.{head_of, tail_of, IsHead, IsTail, head_takes, 
 use Rattle.cert_text.proofs.ListParts.{IsPointPart, IsEdgePart, points_of, edges_of, points_few, at_most, from_most, from_below, points_take, points_found, edges_take, edges_found}
 use Rattle.cert_text.proofs.Orders.{AllPairs-chain, IsChain-pairs}
 use Rattle.cert_text.proofs.RowOrders.{LivePrecedes-trans, TriFollows-trans}
-use Rattle.cert_text.proofs.Taking.{Took, took_then, text_then, bind_ok, ok_is, Reaches}
+use Rattle.cert_text.proofs.LineKinds.{bind_ok}
+use Rattle.cert_text.proofs.Shapes.{value_is}
+use Rattle.cert_text.proofs.Taking.{Took, took_then, text_then, Reaches}
 use Rattle.cert_text.proofs.WordKinds.{HasMethod}
 
 -- a report is within its ranges by its parts
@@ -72,7 +74,7 @@ report_takes bytes x e =
     let edges = edges_take limits (points_few (length p.0.0.points) points.1.points_count) p.0.1 d.0 d.1 in
     let tail = tail_takes h.0.0.version d.0.1 t.0 t.1 in
     let made : Report × Place = (report_from h.0.0 p.0.0 d.0.0 t.0.0, t.0.1) in
-    subst (λ (y : Report × Place). Took bytes (report_lines y.0) y.1.rest × IsWithin y.0) (ok_is made x t.2)
+    subst (λ (y : Report × Place). Took bytes (report_lines y.0) y.1.rest × IsWithin y.0) (value_is made x t.2)
     (took_then head.0 (took_then points.0 (took_then edges.0 tail.0)), within_from h.0.0 p.0.0 d.0.0 t.0.0 head.1 points.1 edges.1 tail.1)
 
 -- the text of four parts, from the left
@@ -125,7 +127,7 @@ report_found r is rest =
 ended_ok : (x : Report × Place) (r : Report) → ended x ≡ Ok r → (x.0 ≡ r) × (x.1.rest ≡ [])
 ended_ok x r e = go (eqb (length x.1.rest) 0) refl e where
   go : (b : Bool) → eqb (length x.1.rest) 0 ≡ b → cond b (Ok x.0) (Err (refused x.1.number AfterEnd)) ≡ Ok r → (x.0 ≡ r) × (x.1.rest ≡ [])
-  go true h e = (ok_is x.0 r e, nil_from_length x.1.rest (eqb-true _ _ h))
+  go true h e = (value_is x.0 r e, nil_from_length x.1.rest (eqb-true _ _ h))
   go false h e = absurd cc
 
 -- what is read is a report within its ranges, and the bytes are its text
@@ -152,7 +154,7 @@ one_text r s r_is s_is x e =
     let first = report_found r r_is x in
     let second = report_found s s_is [] in
     let same : report_at (report_text r ++ x) ≡ report_at (report_text s ++ []) = ap report_at (e ∙ sym (append-nil (report_text s))) in
-    let both = ok_is (r, record { number = first.number; rest = x }) (s, record { number = second.number; rest = [] }) (sym first.is ∙ same ∙ second.is) in
+    let both = value_is (r, record { number = first.number; rest = x }) (s, record { number = second.number; rest = [] }) (sym first.is ∙ same ∙ second.is) in
     (ap (λ (y : Report × Place). y.0) both, ap (λ (y : Report × Place). y.1.rest) both)
 
 pub is_read : (bytes : List ℕ) (result : Result Report ReportStop) → Gives (λ r. r) result (report_of bytes)

@@ -4,16 +4,17 @@ use Rattle.std.specs.List.{list_all, AllByRecursion}
 use Rattle.std.proofs.lemmas.Grind.{flat_map-append}
 use Rattle.std.proofs.lemmas.List.Concat.{flat_map-cons}
 use Rattle.mwt_base.specs.Line.{line}
-use Rattle.cert_text.specs.declared.found.Found.{Found}
-use Rattle.cert_text.specs.declared.found.Found.TheVariants.{NotSpelled, Outside, Is}
+use Rattle.cert_text.specs.declared.found.Flaw.TheVariants.{NotSpelled, Outside}
 use Rattle.cert_text.specs.declared.refusal.Refusal2.{Refusal2}
 use Rattle.cert_text.specs.declared.refusal.Reason.TheVariants.{Order}
 use Rattle.cert_text.specs.Reasons.{refused}
 use Rattle.cert_text.specs.Cuts.{fields}
-use Rattle.cert_text.specs.Reading.{◌>>=◌, Place, line_by, line_at, judged, value_at, is_behind, row_at, rows_at}
+use Rattle.cert_text.specs.Found.{◌>>=◌, Found}
+use Rattle.cert_text.specs.Reading.{Place, line_by, line_at, judged, value_at, is_behind, row_at, rows_at}
 use Rattle.cert_text.specs.Texts.{spaced, lines_text}
 use Rattle.cert_text.proofs.Cutting.{is_plain, cut_takes, cut_again, fields_joined, fields_again, line_free}
-use Rattle.cert_text.proofs.LineKinds.{IsKind}
+use Rattle.cert_text.proofs.LineKinds.{IsKind, bind_ok}
+use Rattle.cert_text.proofs.Shapes.{value_is}
 
 -- these lines were taken from the front of a text
 pub record Took (text : List ℕ) (lines : List (List ℕ)) (rest : List ℕ) : Type 0 where
@@ -33,27 +34,16 @@ took_then {c = c} {xs = xs} {ys = ys} p q = record { is = p.is ∙ ap (λ (t : L
 pub took_none : (a : List ℕ) → Took a [] a
 took_none a = record { is = refl }
 
--- the value of a step that did not fail
-pub bind_ok : {A B : Type 0} (r : Result A Refusal2) (f : A → Result B Refusal2) (y : B) → (r >>= f) ≡ Ok y → (x : A) × (r ≡ Ok x) × (f x ≡ Ok y)
-bind_ok (Ok x) f y e = (x, refl, e)
-bind_ok (Err d) f y e = absurd cc
-
-abbrev done : {A : Type 0} → A → Result A Refusal2
-done x = Ok x
-
-pub ok_is : {A : Type 0} (x y : A) → done x ≡ done y → x ≡ y
-ok_is x y e = cc
-
-judged_ok : {X : Type 0} (n : ℕ) (f : Found X) (x : X) → judged n f ≡ Ok x → f ≡ Is x
-judged_ok n NotSpelled x e = absurd cc
-judged_ok n Outside x e = absurd cc
-judged_ok {X = X} n (Is y) x e = ap (λ (z : X). Is z) (ok_is y x e)
+judged_ok : {X : Type 0} (n : ℕ) (f : Found X) (x : X) → judged n f ≡ Ok x → f ≡ Ok x
+judged_ok n (Err NotSpelled) x e = absurd cc
+judged_ok n (Err Outside) x e = absurd cc
+judged_ok {X = X} n (Ok y) x e = ap (λ (z : X). Ok z) (value_is y x e)
 
 -- a line
 by_ok : (n : ℕ) (o : Option (List ℕ × List ℕ)) (l : List ℕ × Place) → line_by n o ≡ Ok l → o ≡ Some (l.0, l.1.rest)
 by_ok n None l e = absurd cc
 by_ok n (Some parts) l e =
-    let same = ok_is (parts.0, record { number = n + 1; rest = parts.1 }) l e in
+    let same = value_is (parts.0, record { number = n + 1; rest = parts.1 }) l e in
     ap (λ (m : List ℕ × Place). Some (m.0, m.1.rest)) same
 
 pub line_takes : (p : Place) (l : List ℕ × Place) → line_at p ≡ Ok l → Took p.rest (l.0 ∷ []) l.1.rest
@@ -75,7 +65,7 @@ value_takes {X = X} {says = says} {spell = spell} {In = In} k p x e =
     let t = k.takes (fields a.0.0) b.0 (judged_ok p.number _ b.0 b.1) in
     let text : a.0.0 ≡ spaced (spell b.0) = sym (fields_joined a.0.0) ∙ ap spaced t.0 in
     let made : X × Place = (b.0, a.0.1) in
-    subst (λ (y : X × Place). Took p.rest (spaced (spell y.0) ∷ []) y.1.rest × In y.0) (ok_is made x b.2)
+    subst (λ (y : X × Place). Took p.rest (spaced (spell y.0) ∷ []) y.1.rest × In y.0) (value_is made x b.2)
     (subst (λ (t : List ℕ). Took p.rest (t ∷ []) a.0.1.rest) text (line_takes p a.0 a.1), t.1)
 
 pub value_found : {X : Type 0} {says : List (List ℕ) → Found X} {spell : X → List (List ℕ)} {In : X → Type 0} → IsKind says spell In
@@ -95,7 +85,7 @@ abbrev pub row_lines : {X : Type 0} → (X → List (List ℕ)) → List X → L
 row_lines spell xs = map (λ x. spaced (spell x)) xs
 
 guard_ok : {A : Type 0} (b : Bool) (d : Refusal2) (x y : A) → cond b (Ok x) (Err d) ≡ Ok y → (b ≡ true) × (x ≡ y)
-guard_ok true d x y e = (refl, ok_is x y e)
+guard_ok true d x y e = (refl, value_is x y e)
 guard_ok false d x y e = absurd cc
 
 row_takes : {X : Type 0} {says : List (List ℕ) → Found X} {spell : X → List (List ℕ)} {In : X → Type 0} → IsKind says spell In
@@ -114,7 +104,7 @@ pub rows_take : {X : Type 0} {says : List (List ℕ) → Found X} {spell : X →
 unfolding rows_at
 rows_take {X = X} {says = says} {spell = spell} {In = In} k may_follow last zero p x e =
     let none : List X × Place = ([], p) in
-    subst (λ (y : List X × Place). Took p.rest (row_lines spell y.0) y.1.rest × (length y.0 ≡ 0) × AllByRecursion In y.0 × IsFollowed may_follow last y.0) (ok_is none x e)
+    subst (λ (y : List X × Place). Took p.rest (row_lines spell y.0) y.1.rest × (length y.0 ≡ 0) × AllByRecursion In y.0 × IsFollowed may_follow last y.0) (value_is none x e)
     (took_none p.rest, refl, tt, tt)
 rows_take {X = X} {says = says} {spell = spell} {In = In} k may_follow last (suc n) p x e =
     let a = bind_ok (row_at says may_follow last p) (λ y. rows_at says may_follow (Some y.0) n y.1 >>= λ z. Ok (y.0 ∷ z.0, z.1)) x e in
@@ -122,7 +112,7 @@ rows_take {X = X} {says = says} {spell = spell} {In = In} k may_follow last (suc
     let first = row_takes k may_follow last p a.0 a.1 in
     let others = rows_take k may_follow (Some a.0.0) n a.0.1 b.0 b.1 in
     let made : List X × Place = (a.0.0 ∷ b.0.0, b.0.1) in
-    subst (λ (y : List X × Place). Took p.rest (row_lines spell y.0) y.1.rest × (length y.0 ≡ suc n) × AllByRecursion In y.0 × IsFollowed may_follow last y.0) (ok_is made x b.2)
+    subst (λ (y : List X × Place). Took p.rest (row_lines spell y.0) y.1.rest × (length y.0 ≡ suc n) × AllByRecursion In y.0 × IsFollowed may_follow last y.0) (value_is made x b.2)
     (took_then first.0 others.0, ap suc others.1, (first.1, others.2), (first.2, others.3))
 
 -- a step reads this and leaves the rest

@@ -1,26 +1,22 @@
 -- What is found in the place of a field or a line.
-use Rattle.std.specs.Prelude.{⊤}
-use Rattle.cert_text.specs.declared.found.Found.{Found}
-use Rattle.cert_text.specs.declared.found.Found.TheVariants.{NotSpelled, Outside, Is}
+use Rattle.std.specs.Prelude.{Result, Ok, Err}
+use Rattle.cert_text.specs.declared.found.Flaw.{Flaw}
+use Rattle.cert_text.specs.declared.found.Flaw.TheVariants.{NotSpelled, Outside}
+
+-- a value, or what is wrong
+abbrev pub Found : Type 0 → Type 0
+Found A = Result A Flaw
+
+-- what is made of a value, if there is one
+infixl 10 ◌>>=◌
+abbrev pub ◌>>=◌ : {A B E : Type 0} → Result A E → (A → Result B E) → Result B E
+(Ok x) >>= f = f x
+(Err e) >>= f = Err e
 
 -- what is found in two places: a wrong spelling in any comes before a range
 abbrev pub both : {A B : Type 0} → Found A → Found B → Found (A × B)
-both NotSpelled y = NotSpelled
-both Outside NotSpelled = NotSpelled
-both Outside Outside = Outside
-both Outside (Is b) = Outside
-both (Is a) NotSpelled = NotSpelled
-both (Is a) Outside = Outside
-both (Is a) (Is b) = Is (a, b)
-
--- the same of a value made from the one that is found
-abbrev pub with_value : {A B : Type 0} → (A → Found B) → Found A → Found B
-with_value f NotSpelled = NotSpelled
-with_value f Outside = Outside
-with_value f (Is a) = f a
-
--- P holds of the value, if there is one
-abbrev pub IfIs : {A : Type 0} → Found A → (A → Type 0) → Type 0
-IfIs NotSpelled P = ⊤
-IfIs Outside P = ⊤
-IfIs (Is a) P = P a
+both (Ok a) (Ok b) = Ok (a, b)
+both (Ok a) (Err g) = Err g
+both (Err NotSpelled) y = Err NotSpelled
+both (Err Outside) (Ok b) = Err Outside
+both (Err Outside) (Err g) = Err g

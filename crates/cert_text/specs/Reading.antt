@@ -1,19 +1,14 @@
 -- Reading a report line by line, with the first line that fails.
 use Rattle.std.specs.Prelude.{◌≡◌, ℕ, ◌+◌, Bool, true, List, [], ◌∷◌, zero, suc, Option, Some, None, Result, Ok, Err, bytes_eq, codes, if◌then◌else◌}
-use Rattle.cert_text.specs.declared.found.Found.{Found}
-use Rattle.cert_text.specs.declared.found.Found.TheVariants.{NotSpelled, Outside, Is}
+use Rattle.cert_text.specs.declared.found.Flaw.TheVariants.{NotSpelled, Outside}
 use Rattle.cert_text.specs.declared.refusal.Refusal2.{Refusal2}
 use Rattle.cert_text.specs.declared.refusal.Reason.TheVariants.{Version, Line, Order, Range, Truncated}
 use Rattle.cert_text.specs.declared.refusal.ReportStop.{ReportStop}
 use Rattle.cert_text.specs.declared.refusal.ReportStop.TheVariants as stop
 use Rattle.cert_text.specs.Reasons.{refused}
 use Rattle.cert_text.specs.Cuts.{cut, fields}
+use Rattle.cert_text.specs.Found.{◌>>=◌, Found}
 use Rattle.cert_text.specs.Lines.{count_in}
-
-infixl 10 ◌>>=◌
-abbrev pub ◌>>=◌ : {A B : Type 0} → Result A Refusal2 → (A → Result B Refusal2) → Result B Refusal2
-(Ok x) >>= f = f x
-(Err e) >>= f = Err e
 
 -- What a function returned, seen by view, is what reading gives, unless memory ran out.
 abbrev pub Fails : {Y : Type 0} → ReportStop → Result Y Refusal2 → Type 0
@@ -39,9 +34,9 @@ line_at p = line_by p.number (cut 10 p.rest)
 
 -- what is found in a line, or why the line fails
 abbrev pub judged : {X : Type 0} → ℕ → Found X → Result X Refusal2
-judged number NotSpelled = Err (refused number Line)
-judged number Outside = Err (refused number Range)
-judged number (Is x) = Ok x
+judged number (Err NotSpelled) = Err (refused number Line)
+judged number (Err Outside) = Err (refused number Range)
+judged number (Ok x) = Ok x
 
 -- what the next line says
 unfoldable pub value_at : {X : Type 0} → (List (List ℕ) → Found X) → Place → Result (X × Place) Refusal2

@@ -12,7 +12,8 @@ use Rattle.cert_text.specs.declared.report.Report.{Report}
 use Rattle.cert_text.specs.Reasons.{refused}
 use Rattle.cert_text.specs.Lines.{point_in, hull_in, edge_in, tri_in, live_in, count_in, diamond_in, method_in, length_in, most_bound, amount_line_in, end_in}
 use Rattle.cert_text.specs.Rows.{point_may_follow, hull_may_follow, edge_may_follow, live_may_follow, tri_may_follow}
-use Rattle.cert_text.specs.Reading.{◌>>=◌, Place, value_at, block_at, version_at}
+use Rattle.cert_text.specs.Found.{◌>>=◌}
+use Rattle.cert_text.specs.Reading.{Place, value_at, block_at, version_at}
 
 -- the lines before the lists
 unfoldable pub head_at : List ℕ → Result (Head × Place) Refusal2

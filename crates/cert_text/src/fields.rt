@@ -1,7 +1,9 @@
 // How a text is cut into lines and fields.
-ghost use Rattle.std.specs.Prelude.{◌≡◌, ◌+◌, ◌<◌, [], ◌∷◌, length, position, bytes_eq, IfSome, MatchOption};
+ghost use Rattle.std.specs.Prelude.{◌≡◌, ◌+◌, ◌<◌, [], ◌∷◌, length, position, bytes_eq, Ok, Err, IfSome, MatchResult};
 ghost use Rattle.std.specs.Option.{ForSome, option_map};
-ghost use Rattle.cert_text.specs.Cuts.{is_byte, cut, fields, fields_left};
+ghost use Rattle.cert_text.specs.Cuts.{is_byte, cut, fields, one, two, three, after};
+
+use crate::found::{Flaw, Found};
 
 // Where a byte comes first.
 fn position_of(text: &[u8], byte: u8) -> Option<usize>
@@ -17,10 +19,8 @@ pub fn cut(text: &[u8], byte: u8) -> Option<(&[u8], &[u8])>
     ensures parts { option_map (λ parts. (parts.0.now, parts.1.now)) result ≡ cut byte text.now }
     ensures len { IfSome result (λ parts. length parts.0.now + 1 + length parts.1.now ≡ length text.now) }
 {
-    match position_of(text, byte) {
-        Some(n) => Some((&text[..n], &text[n + 1..])),
-        None => None,
-    }
+    let n = position_of(text, byte)?;
+    Some((&text[..n], &text[n + 1..]))
 }
 
 pub fn is_word(text: &[u8], word: &[u8]) -> bool
@@ -29,42 +29,55 @@ pub fn is_word(text: &[u8], word: &[u8]) -> bool
     text == word
 }
 
-/// The fields that are left of a line.
-#[derive(Drop)]
-pub struct Fields<'a> {
-    rest: &'a [u8],
-    more: bool,
+/// The first field of a line with more than one, and what stands after it.
+#[tactic(auto, using(crate::proofs::Cutting::fields_cut))]
+pub fn first(line: &[u8]) -> Found<(&[u8], &[u8])>
+    ensures { MatchResult result (λ parts. fields line.now ≡ parts.0.now ∷ fields parts.1.now)
+        (λ flaw. (flaw ≡ Flaw.NotSpelled) × (fields line.now ≡ line.now ∷ [])) }
+{
+    cut(line, b' ').ok_or(Flaw::NotSpelled)
 }
 
-impl<'a> Fields<'a> {
-    pub fn of(line: &'a [u8]) -> Fields<'a>
-        ensures { fields_left result.more result.rest.now ≡ fields line.now }
-    {
-        Fields {
-            rest: line,
-            more: true,
-        }
+/// The field of a line with exactly one.
+#[tactic(auto, using(crate::proofs::Cutting::one_more))]
+pub fn one(line: &[u8]) -> Found<&[u8]>
+    ensures { MatchResult result (λ a. one (fields line.now) ≡ Ok a.now)
+        (λ flaw. one (fields line.now) ≡ Err flaw) }
+{
+    match first(line) {
+        Ok(_) => Err(Flaw::NotSpelled),
+        Err(_) => Ok(line),
     }
+}
 
-    /// The next field.
-    #[tactic(auto, using(crate::proofs::Cutting::fields_cut))]
-    pub fn next(&mut self) -> Option<&'a [u8]>
-        ensures { MatchOption result (fields_left self.old.more self.old.rest.now ≡ [])
-            (λ field. fields_left self.old.more self.old.rest.now
-            ≡ field.now ∷ fields_left self.new.more self.new.rest.now) }
-    {
-        if !self.more {
-            return None;
-        }
-        match cut(self.rest, b' ') {
-            Some((field, rest)) => {
-                self.rest = rest;
-                Some(field)
-            }
-            None => {
-                self.more = false;
-                Some(self.rest)
-            }
-        }
+/// The fields of a line with exactly two.
+pub fn two(line: &[u8]) -> Found<(&[u8], &[u8])>
+    ensures { MatchResult result (λ v. two (fields line.now) ≡ Ok (v.0.now, v.1.now))
+        (λ flaw. two (fields line.now) ≡ Err flaw) }
+{
+    let (a, rest) = first(line)?;
+    Ok((a, one(rest)?))
+}
+
+/// The fields of a line with exactly three.
+pub fn three(line: &[u8]) -> Found<(&[u8], &[u8], &[u8])>
+    ensures { MatchResult result (λ v. three (fields line.now) ≡ Ok (v.0.now, v.1.now, v.2.now))
+        (λ flaw. three (fields line.now) ≡ Err flaw) }
+{
+    let (a, rest) = first(line)?;
+    let (b, c) = two(rest)?;
+    Ok((a, b, c))
+}
+
+/// The field after this word, in a line with exactly the two.
+pub fn after<'a>(word: &[u8], line: &'a [u8]) -> Found<&'a [u8]>
+    ensures { MatchResult result (λ a. after word.now (fields line.now) ≡ Ok a.now)
+        (λ flaw. after word.now (fields line.now) ≡ Err flaw) }
+{
+    let (first, field) = two(line)?;
+    if is_word(first, word) {
+        Ok(field)
+    } else {
+        Err(Flaw::NotSpelled)
     }
 }

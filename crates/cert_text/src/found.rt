@@ -2,31 +2,23 @@
 ghost use Rattle.std.specs.Prelude.{◌≡◌};
 ghost use Rattle.cert_text.specs.Found.{both};
 
-/// What is found in a place: something that is not spelled as it should be; a number or an amount out of its
-/// range; or a value.
+/// What is wrong in a place: it is not spelled as it should be; or its number or amount is out of its range.
 #[derive(Clone, Copy)]
-pub enum Found<T> {
+pub enum Flaw {
     NotSpelled,
     Outside,
-    Is(T),
 }
 
-impl<T: Copy> Found<T> {
-    /// What is found in two places of one line: a wrong spelling in any comes before a range.
-    pub fn and<U: Copy>(self, other: Found<U>) -> Found<(T, U)>
-        ensures { result ≡ both self other }
-    {
-        match self {
-            Found::NotSpelled => Found::NotSpelled,
-            Found::Outside => match other {
-                Found::NotSpelled => Found::NotSpelled,
-                _ => Found::Outside,
-            },
-            Found::Is(x) => match other {
-                Found::NotSpelled => Found::NotSpelled,
-                Found::Outside => Found::Outside,
-                Found::Is(y) => Found::Is((x, y)),
-            },
-        }
+/// What is found in a place: a value, or what is wrong there.
+pub type Found<T> = Result<T, Flaw>;
+
+/// What is found in two places of one line: a wrong spelling in any comes before a range.
+pub fn both<T: Copy, U: Copy>(x: Found<T>, y: Found<U>) -> Found<(T, U)>
+    ensures { result ≡ both x y }
+{
+    match (x, y) {
+        (Ok(x), Ok(y)) => Ok((x, y)),
+        (Err(Flaw::NotSpelled), _) | (_, Err(Flaw::NotSpelled)) => Err(Flaw::NotSpelled),
+        _ => Err(Flaw::Outside),
     }
 }

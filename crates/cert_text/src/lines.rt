@@ -1,10 +1,10 @@
 // What each kind of line says.
 ghost use Rattle.std.specs.Prelude.{◌≡◌, ◌≤◌, ◌^◌};
 ghost use Rattle.cert_text.specs.Cuts.{fields};
-ghost use Rattle.cert_text.specs.Lines.{point_in, hull_in, edge_of, ends_in, edge_in, tri_of, tri_in};
+ghost use Rattle.cert_text.specs.Lines.{point_in, index_in, hull_in, edge_of, ends_in, edge_in, tri_of, tri_in};
 
-use crate::fields::Fields;
-use crate::found::Found;
+use crate::fields::{one, three, two};
+use crate::found::{Flaw, Found, both};
 use crate::limits::Limits;
 use crate::numbers::{coordinate_in, number_in};
 use exact_predicates::{Edge, Point, Tri};
@@ -16,27 +16,17 @@ const IDS: u64 = 1 << 32;
 pub fn point_in(line: &[u8]) -> Found<Point>
     ensures { result ≡ point_in (fields line.now) }
 {
-    let mut fields = Fields::of(line);
-    let Some(id) = fields.next() else {
-        return Found::NotSpelled;
-    };
-    let Some(x) = fields.next() else {
-        return Found::NotSpelled;
-    };
-    let Some(y) = fields.next() else {
-        return Found::NotSpelled;
-    };
-    if fields.next().is_some() {
-        return Found::NotSpelled;
-    }
-    let found = number_in(id, 0, IDS)
-        .and(coordinate_in(x))
-        .and(coordinate_in(y));
-    match found {
-        Found::NotSpelled => Found::NotSpelled,
-        Found::Outside => Found::Outside,
-        Found::Is(((id, x), y)) => Found::Is(Point { id, x, y }),
-    }
+    let (id, x, y) = three(line)?;
+    let first = both(number_in(id, 0, IDS), coordinate_in(x));
+    let ((id, x), y) = both(first, coordinate_in(y))?;
+    Ok(Point { id, x, y })
+}
+
+// The number of a point.
+fn index_in(limits: Limits, text: &[u8]) -> Found<u32>
+    ensures { result ≡ index_in limits text.now }
+{
+    number_in(text, 0, u64::from(limits.points))
 }
 
 /// A point of the hull: its number.
@@ -44,14 +34,7 @@ pub fn point_in(line: &[u8]) -> Found<Point>
 pub fn hull_in(limits: Limits, line: &[u8]) -> Found<u32>
     ensures { result ≡ hull_in limits (fields line.now) }
 {
-    let mut fields = Fields::of(line);
-    let Some(u) = fields.next() else {
-        return Found::NotSpelled;
-    };
-    if fields.next().is_some() {
-        return Found::NotSpelled;
-    }
-    number_in(u, 0, u64::from(limits.points))
+    index_in(limits, one(line)?)
 }
 
 // An edge by its ends, where the first is the lesser.
@@ -60,9 +43,9 @@ fn edge_of(a: u32, b: u32) -> Found<Edge>
     ensures { result ≡ edge_of (a, b) }
 {
     if a < b {
-        Found::Is(Edge { a, b })
+        Ok(Edge { a, b })
     } else {
-        Found::Outside
+        Err(Flaw::Outside)
     }
 }
 
@@ -71,12 +54,8 @@ fn edge_of(a: u32, b: u32) -> Found<Edge>
 pub fn ends_in(limits: Limits, a: &[u8], b: &[u8]) -> Found<Edge>
     ensures { result ≡ ends_in limits a.now b.now }
 {
-    let end = u64::from(limits.points);
-    match number_in(a, 0, end).and(number_in(b, 0, end)) {
-        Found::NotSpelled => Found::NotSpelled,
-        Found::Outside => Found::Outside,
-        Found::Is((a, b)) => edge_of(a, b),
-    }
+    let (a, b) = both(index_in(limits, a), index_in(limits, b))?;
+    edge_of(a, b)
 }
 
 /// An edge: the numbers of its ends.
@@ -84,16 +63,7 @@ pub fn ends_in(limits: Limits, a: &[u8], b: &[u8]) -> Found<Edge>
 pub fn edge_in(limits: Limits, line: &[u8]) -> Found<Edge>
     ensures { result ≡ edge_in limits (fields line.now) }
 {
-    let mut fields = Fields::of(line);
-    let Some(a) = fields.next() else {
-        return Found::NotSpelled;
-    };
-    let Some(b) = fields.next() else {
-        return Found::NotSpelled;
-    };
-    if fields.next().is_some() {
-        return Found::NotSpelled;
-    }
+    let (a, b) = two(line)?;
     ends_in(limits, a, b)
 }
 
@@ -103,9 +73,9 @@ fn tri_of(a: u32, b: u32, c: u32) -> Found<Tri>
     ensures { result ≡ tri_of (a, b) c }
 {
     if a < b && a < c && b != c {
-        Found::Is(Tri { a, b, c })
+        Ok(Tri { a, b, c })
     } else {
-        Found::Outside
+        Err(Flaw::Outside)
     }
 }
 
@@ -114,26 +84,8 @@ fn tri_of(a: u32, b: u32, c: u32) -> Found<Tri>
 pub fn tri_in(limits: Limits, line: &[u8]) -> Found<Tri>
     ensures { result ≡ tri_in limits (fields line.now) }
 {
-    let mut fields = Fields::of(line);
-    let Some(a) = fields.next() else {
-        return Found::NotSpelled;
-    };
-    let Some(b) = fields.next() else {
-        return Found::NotSpelled;
-    };
-    let Some(c) = fields.next() else {
-        return Found::NotSpelled;
-    };
-    if fields.next().is_some() {
-        return Found::NotSpelled;
-    }
-    let end = u64::from(limits.points);
-    let found = number_in(a, 0, end)
-        .and(number_in(b, 0, end))
-        .and(number_in(c, 0, end));
-    match found {
-        Found::NotSpelled => Found::NotSpelled,
-        Found::Outside => Found::Outside,
-        Found::Is(((a, b), c)) => tri_of(a, b, c),
-    }
+    let (a, b, c) = three(line)?;
+    let first = both(index_in(limits, a), index_in(limits, b));
+    let ((a, b), c) = both(first, index_in(limits, c))?;
+    tri_of(a, b, c)
 }

@@ -1,9 +1,8 @@
 // Numbers and amounts of a report.
-ghost use Rattle.std.specs.Prelude.{◌≡◌, ◌<◌, ◌≤◌, ◌^◌, pos, ◌≤ℤ◌, unsigned_abs, neg_ℤ};
-ghost use Rattle.cert_text.specs.Found.{IfIs};
+ghost use Rattle.std.specs.Prelude.{◌≡◌, ◌<◌, ◌≤◌, ◌^◌, pos, ◌≤ℤ◌, unsigned_abs, neg_ℤ, IfOk};
 ghost use Rattle.cert_text.specs.Numbers.{number_in, coordinate_in, amount_within};
 
-use crate::found::Found;
+use crate::found::{Flaw, Found};
 use length_enclosure::{Units, number_up_to, read_units};
 
 // Above every number of a report.
@@ -17,12 +16,13 @@ const MOST_COORDINATE: u128 = 1_000_000_000;
 pub fn number_in(text: &[u8], low: u32, end: u64) -> Found<u32>
     requires { end ≤ 2 ^ 32 }
     ensures is { result ≡ number_in low end text.now }
-    ensures within { IfIs result (λ n. n < end) }
+    ensures within { IfOk result (λ n. n < end) }
 {
-    match number_up_to(text, CAP) {
-        None => Found::NotSpelled,
-        Some(n) if u128::from(low) <= n && n < u128::from(end) => Found::Is(n as u32),
-        Some(_) => Found::Outside,
+    let n = number_up_to(text, CAP).ok_or(Flaw::NotSpelled)?;
+    if u128::from(low) <= n && n < u128::from(end) {
+        Ok(n as u32)
+    } else {
+        Err(Flaw::Outside)
     }
 }
 
@@ -33,34 +33,32 @@ pub fn coordinate_in(text: &[u8]) -> Found<i64>
 {
     let negative = !text.is_empty() && text[0] == b'-';
     let unsigned = if negative { &text[1..] } else { text };
-    let Some(size) = number_up_to(unsigned, CAP) else {
-        return Found::NotSpelled;
-    };
+    let size = number_up_to(unsigned, CAP).ok_or(Flaw::NotSpelled)?;
     if negative && size == 0 {
-        return Found::NotSpelled;
+        return Err(Flaw::NotSpelled);
     }
     if MOST_COORDINATE < size {
-        return Found::Outside;
+        return Err(Flaw::Outside);
     }
     let size = size as i64;
-    Found::Is(if negative { -size } else { size })
+    Ok(if negative { -size } else { size })
 }
 
 /// An amount from `low` to `high`.
 #[tactic(auto, unfolding(crate::specs::Numbers::amount_within))]
 pub fn amount_within(text: &[u8], low: i128, high: i128) -> Found<i128>
     ensures is { result ≡ amount_within low high text.now }
-    ensures low { IfIs result (λ n. low ≤ℤ n) }
-    ensures high { IfIs result (λ n. n ≤ℤ high) }
+    ensures low { IfOk result (λ n. low ≤ℤ n) }
+    ensures high { IfOk result (λ n. n ≤ℤ high) }
 {
     match read_units(text) {
-        Units::NoAmount => Found::NotSpelled,
-        Units::Outside => Found::Outside,
+        Units::NoAmount => Err(Flaw::NotSpelled),
+        Units::Outside => Err(Flaw::Outside),
         Units::Value(n) => {
             if low <= n && n <= high {
-                Found::Is(n)
+                Ok(n)
             } else {
-                Found::Outside
+                Err(Flaw::Outside)
             }
         }
     }

@@ -3,11 +3,11 @@ ghost use Rattle.std.specs.Prelude.{◌≡◌, [], ◌∷◌, ◌++◌, codes, O
 ghost use Rattle.length_enclosure.specs.Amount.{amount};
 ghost use Rattle.cert_text.specs.Cuts.{fields};
 ghost use Rattle.cert_text.specs.Numbers.{amount_within, amount_upto};
-ghost use Rattle.cert_text.specs.Lines.{one_amount, three_amounts, hull_or_inner, live_in};
+ghost use Rattle.cert_text.specs.Lines.{one_amount, three_amounts, live_in};
 ghost use Rattle.cert_text.specs.Texts.{line_of, price_fields};
 
-use crate::fields::{Fields, is_word};
-use crate::found::Found;
+use crate::fields::{first, is_word, one, three};
+use crate::found::{Flaw, Found, both};
 use crate::limits::Limits;
 use crate::lines::ends_in;
 use crate::numbers::amount_within;
@@ -24,28 +24,22 @@ const MOST_PRICE: i64 = 400_000_000_000_000_000;
 fn small_amount(text: &[u8], low: i64, high: i64) -> Found<i64>
     ensures { result ≡ amount_within low high text.now }
 {
-    match amount_within(text, i128::from(low), i128::from(high)) {
-        Found::NotSpelled => Found::NotSpelled,
-        Found::Outside => Found::Outside,
-        Found::Is(n) => Found::Is(n as i64),
-    }
+    let n = amount_within(text, i128::from(low), i128::from(high))?;
+    Ok(n as i64)
 }
 
 // A live edge with one amount.
 fn one_amount(kind: LineKind, edge: Found<Edge>, value: Found<i64>) -> Found<PriceLine>
     ensures { result ≡ one_amount kind edge value }
 {
-    match edge.and(value) {
-        Found::NotSpelled => Found::NotSpelled,
-        Found::Outside => Found::Outside,
-        Found::Is((edge, value)) => Found::Is(PriceLine {
-            edge,
-            kind,
-            value,
-            left: 0,
-            right: 0,
-        }),
-    }
+    let (edge, value) = both(edge, value)?;
+    Ok(PriceLine {
+        edge,
+        kind,
+        value,
+        left: 0,
+        right: 0,
+    })
 }
 
 // A live edge of the skeleton, with the anchors of its two sides.
@@ -57,38 +51,14 @@ fn three_amounts(
 ) -> Found<PriceLine>
     ensures { result ≡ three_amounts edge value left right }
 {
-    match edge.and(value).and(left).and(right) {
-        Found::NotSpelled => Found::NotSpelled,
-        Found::Outside => Found::Outside,
-        Found::Is((((edge, value), left), right)) => Found::Is(PriceLine {
-            edge,
-            kind: LineKind::Skeleton,
-            value,
-            left,
-            right,
-        }),
-    }
-}
-
-// A live edge with one amount, by its kind.
-fn hull_or_inner(kind: &[u8], edge: Found<Edge>, value: &[u8]) -> Found<PriceLine>
-    ensures { result ≡ hull_or_inner kind.now edge value.now }
-{
-    if is_word(kind, b"h") {
-        one_amount(
-            LineKind::Hull,
-            edge,
-            small_amount(value, -MOST_ANCHOR, MOST_ANCHOR),
-        )
-    } else if is_word(kind, b"i") {
-        one_amount(
-            LineKind::Inner,
-            edge,
-            small_amount(value, -MOST_PRICE, MOST_PRICE),
-        )
-    } else {
-        Found::NotSpelled
-    }
+    let (((edge, value), left), right) = both(both(both(edge, value), left), right)?;
+    Ok(PriceLine {
+        edge,
+        kind: LineKind::Skeleton,
+        value,
+        left,
+        right,
+    })
 }
 
 /// A live edge: its ends, its kind and its amounts. Only version 2 has the kind of the skeleton.
@@ -96,30 +66,18 @@ fn hull_or_inner(kind: &[u8], edge: Found<Edge>, value: &[u8]) -> Found<PriceLin
 pub fn live_in(limits: Limits, line: &[u8]) -> Found<PriceLine>
     ensures { result ≡ live_in limits (fields line.now) }
 {
-    let mut fields = Fields::of(line);
-    let Some(a) = fields.next() else {
-        return Found::NotSpelled;
-    };
-    let Some(b) = fields.next() else {
-        return Found::NotSpelled;
-    };
-    let Some(kind) = fields.next() else {
-        return Found::NotSpelled;
-    };
-    let Some(value) = fields.next() else {
-        return Found::NotSpelled;
-    };
+    let (a, rest) = first(line)?;
+    let (b, rest) = first(rest)?;
+    let (kind, amounts) = first(rest)?;
     let edge = ends_in(limits, a, b);
-    let Some(left) = fields.next() else {
-        return hull_or_inner(kind, edge, value);
-    };
-    let Some(right) = fields.next() else {
-        return Found::NotSpelled;
-    };
-    if fields.next().is_some() {
-        return Found::NotSpelled;
-    }
-    if limits.version == 2 && is_word(kind, b"s") {
+    if is_word(kind, b"h") {
+        let value = small_amount(one(amounts)?, -MOST_ANCHOR, MOST_ANCHOR);
+        one_amount(LineKind::Hull, edge, value)
+    } else if is_word(kind, b"i") {
+        let value = small_amount(one(amounts)?, -MOST_PRICE, MOST_PRICE);
+        one_amount(LineKind::Inner, edge, value)
+    } else if limits.version == 2 && is_word(kind, b"s") {
+        let (value, left, right) = three(amounts)?;
         three_amounts(
             edge,
             small_amount(value, -MOST_PRICE, MOST_PRICE),
@@ -127,7 +85,7 @@ pub fn live_in(limits: Limits, line: &[u8]) -> Found<PriceLine>
             small_amount(right, 0, MOST_ANCHOR),
         )
     } else {
-        Found::NotSpelled
+        Err(Flaw::NotSpelled)
     }
 }
 

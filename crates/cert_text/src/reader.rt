@@ -1,12 +1,11 @@
 // A text that is read line by line.
 ghost use Rattle.std.specs.Prelude.{◌≡◌, ◌+◌, ◌<◌, ◌≤◌, ◌^◌, length, None, IfOk, OnOk, vec_len};
 ghost use Rattle.mwt_base.specs.Limits.{most_amount};
-ghost use Rattle.cert_text.specs.Found.{IfIs};
 ghost use Rattle.cert_text.specs.Reading.{Gives, line_at, judged, value_at, is_behind, row_at, rows_at, block_at, version_at, version_by};
 ghost use Rattle.cert_text.specs.Lines.{count_in, diamond_in, method_in, length_in, amount_line_in, end_in};
 
 use crate::fields::{cut, is_word};
-use crate::found::Found;
+use crate::found::{Flaw, Found};
 use crate::limits::Limits;
 use crate::refusal::{Reason, ReportStop};
 use crate::report::Method;
@@ -29,9 +28,9 @@ fn judged<T: Copy>(number: u32, found: Found<T>) -> Result<T, ReportStop>
     ensures { Gives (λ x. x) result (judged number found) }
 {
     match found {
-        Found::NotSpelled => Err(ReportStop::Refused(Reason::Line.at(number))),
-        Found::Outside => Err(ReportStop::Refused(Reason::Range.at(number))),
-        Found::Is(x) => Ok(x),
+        Err(Flaw::NotSpelled) => Err(ReportStop::Refused(Reason::Line.at(number))),
+        Err(Flaw::Outside) => Err(ReportStop::Refused(Reason::Range.at(number))),
+        Ok(x) => Ok(x),
     }
 }
 

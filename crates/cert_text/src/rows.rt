@@ -1,6 +1,6 @@
 // The lists of a report, row by row.
 ghost use Rattle.std.specs.Prelude.{◌≡◌, [], ◌∷◌, List, ℕ, Bool, OnOk};
-ghost use Rattle.cert_text.specs.declared.found.Found.{Found as found_type};
+ghost use Rattle.cert_text.specs.Found.{Found as found_type};
 ghost use Rattle.cert_text.specs.declared.limits.Limits.{Limits as limits_type};
 ghost use Rattle.cert_text.specs.Cuts.{fields};
 ghost use Rattle.cert_text.specs.Lines.{point_in, hull_in, edge_in, tri_in, live_in};

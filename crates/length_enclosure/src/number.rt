@@ -3,12 +3,6 @@ ghost use Rattle.std.specs.Prelude.{◌≡◌, ◌^◌, ◌≤◌, true, false, 
 ghost use Rattle.std.specs.List.{list_all};
 ghost use Rattle.length_enclosure.specs.Number.{is_digit, has_leading_zero, is_number, number};
 
-fn is_digit(b: u8) -> bool
-    ensures { result ≡ is_digit b }
-{
-    b'0' <= b && b <= b'9'
-}
-
 fn has_leading_zero(text: &[u8]) -> bool
     ensures { result ≡ has_leading_zero text.now }
 {
@@ -23,7 +17,7 @@ pub fn digits_up_to(text: &[u8], cap: u128) -> Option<u128>
 {
     let mut n: u128 = 0;
     for b in text {
-        if !is_digit(*b) {
+        if !b.is_ascii_digit() {
             return None;
         }
         n = (10 * n + u128::from(*b - b'0')).min(cap);

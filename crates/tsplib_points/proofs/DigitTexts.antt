@@ -1,24 +1,7 @@
 -- Whole numbers written as digits.
-use Rattle.std.proofs.Common.{◌≡◌, ℕ, fold, ◌++◌, append_assoc, ◌+◌, ◌-◌, ◌*◌, ◌<◌, true, List, [], ◌∷◌, length, get_or, take, refl, sym, ap, ◌∙◌}
-use Rattle.std.specs.List.{list_all}
-use Rattle.std.proofs.lemmas.List.Sums.{fold_more}
-use Rattle.std.proofs.lemmas.List.Folds.{list_all_more}
+use Rattle.std.proofs.Common.{◌≡◌, ℕ, fold, ◌++◌, append_assoc, ◌+◌, ◌-◌, ◌*◌, ◌<◌, List, [], ◌∷◌, length, get_or, take, refl, sym, ap, ◌∙◌}
 use Rattle.std.proofs.lemmas.List.{take_more}
-use Rattle.tsplib_points.specs.Numbers.{is_digit, number}
-
--- no digits spell 0
-pub number_none : number [] ≡ 0
-unfolding number
-number_none = refl
-
--- one more digit of a text
-pub number_more : (t : List ℕ) (i : ℕ) → i < length t → number (take (i + 1) t) ≡ 10 * number (take i t) + (get_or t i 0 - 48)
-unfolding number
-number_more t i h = fold_more (λ n b. 10 * n + (b - 48)) 0 t i 0 h
-
--- one more byte of a text is a digit
-pub digits_more : (t : List ℕ) (i : ℕ) → i < length t → list_all is_digit (take i t) ≡ true → is_digit (get_or t i 0) ≡ true → list_all is_digit (take (i + 1) t) ≡ true
-digits_more t i h a e = list_all_more is_digit t i 0 h ∙ rw (a, e) refl
+use Rattle.length_enclosure.specs.Number.{number}
 
 -- a fold with one more element
 fold_push : {X Y : Type 0} (f : Y → X → Y) (a : Y) (xs : List X) (y : X) → fold f a (xs ++ y ∷ []) ≡ f (fold f a xs) y

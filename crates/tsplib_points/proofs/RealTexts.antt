@@ -4,10 +4,11 @@ use Rattle.std.specs.List.{list_any, list_all}
 use Rattle.std.proofs.lemmas.Bool.{and_right}
 use Rattle.std.proofs.lemmas.List.Folds.{list_all-append}
 use Rattle.tsplib_points.specs.Lines.{is_empty}
-use Rattle.tsplib_points.specs.Numbers.{is_digit, is_digits, number}
+use Rattle.length_enclosure.specs.Number.{is_digit, number}
+use Rattle.tsplib_points.specs.Numbers.{is_digits}
 use Rattle.tsplib_points.specs.Real.{is_power, is_negative, unsigned, is_decimal, is_exponent, is_real, real_in, whole_part, fraction, mantissa, exponent}
 use Rattle.tsplib_points.specs.Kept.{Holds, IsRead}
-use Rattle.tsplib_points.proofs.DigitTexts.{number_none}
+use Rattle.length_enclosure.proofs.Digits.{number_none}
 
 -- the digits of two texts
 pub are_digits_both : (a b : List ℕ) → is_digits (a ++ b) ≡ (not (is_empty a && is_empty b) && (list_all is_digit a && list_all is_digit b))

@@ -4,8 +4,6 @@ use Rattle.std.proofs.lemmas.Nat.{pow-add, mod-mul-add}
 use Rattle.std.proofs.lemmas.Nat.Gcd.{dvd_of_mod-eq-zero}
 use Rattle.std.proofs.Math.Nat.{mul-mod_left, mul-div_cancel, div-mul_cancel, zero-mod}
 use Rattle.std.proofs.lemmas.Bool.{eq-eqb, ne_eqb, cases_lt}
-use Rattle.std.proofs.lemmas.Bool.Decides.{nat_tests}
-use Rattle.tsplib_points.specs.Numbers.{is_digit}
 use Rattle.tsplib_points.specs.Real.{Real, is_whole, size_times}
 use Rattle.tsplib_points.specs.Kept.{Holds}
 
@@ -139,10 +137,3 @@ mul_ge (suc a) b i = let e : suc a ≡ a + 1 = omega arith in rw e (omega arith)
 pub large_plus : (n k d : ℕ) → 0 < n → 9 < k → 1000000001 ≡ min (n * 10 ^ k + d) 1000000001
 large_plus n k d some h =
     omega (arith, mul_ge n (10 ^ k) some, ten_le 10 k (omega arith))
-
--- the bytes of digits
-pub digit_low : (b : ℕ) → is_digit b ≡ true → b ≤ 57
-digit_low b h = grind (arith, nat_tests)
-
-pub digit_high : (b : ℕ) → is_digit b ≡ true → 48 ≤ b
-digit_high b h = grind (arith, nat_tests)

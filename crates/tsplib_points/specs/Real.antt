@@ -1,7 +1,8 @@
 -- Reals, as exact decimals.
 use Rattle.std.specs.Prelude.{ℕ, ◌+◌, ◌*◌, ◌/◌, ◌%◌, ◌^◌, Bool, false, not, ◌&&◌, ◌||◌, List, [], ◌∷◌, ◌++◌, length, Option, Some, None, ◌==◌, if◌then◌else◌, ℤ, pos, neg_ℤ}
 use Rattle.std.specs.List.{list_any, before_first, after_first}
-use Rattle.tsplib_points.specs.Numbers.{is_digits, number}
+use Rattle.length_enclosure.specs.Number.{number}
+use Rattle.tsplib_points.specs.Numbers.{is_digits}
 
 abbrev pub is_point : ℕ → Bool
 is_point b = b == 46

@@ -2,10 +2,8 @@
 ghost use Rattle.std.specs.Prelude.{◌≡◌, ◌+◌, ◌-◌, ◌*◌, ◌<◌, ◌≤◌, ◌^◌, ◌++◌, ℕ, true, List, length, min};
 ghost use Rattle.std.specs.List.{list_all};
 ghost use Rattle.mwt_base.specs.Limits.{most_coordinate};
-ghost use Rattle.tsplib_points.specs.Numbers.{is_digit, number};
+ghost use Rattle.length_enclosure.specs.Number.{is_digit, number};
 ghost use Rattle.tsplib_points.specs.Kept.{Holds};
-
-use crate::numbers::is_digit;
 
 // Above 10^9 a number is kept no further.
 const CAP: u64 = 1_000_000_001;
@@ -67,7 +65,7 @@ impl Digits {
         ensures zeros { self.new.zeros ≤ self.old.zeros + length text.now }
     {
         for b in text {
-            if !is_digit(*b) {
+            if !b.is_ascii_digit() {
                 return false;
             }
             self.push(*b);

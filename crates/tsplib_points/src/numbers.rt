@@ -1,12 +1,9 @@
 // Whole numbers.
 ghost use Rattle.std.specs.Prelude.{◌≡◌, ◌^◌, ◌≤◌, true, false, min, IfSome, MatchOption};
-ghost use Rattle.tsplib_points.specs.Numbers.{is_digit, is_digits, number, small_number};
+ghost use Rattle.length_enclosure.specs.Number.{number};
+ghost use Rattle.tsplib_points.specs.Numbers.{is_digits, small_number};
 
-pub fn is_digit(b: u8) -> bool
-    ensures { result ≡ is_digit b }
-{
-    b'0' <= b && b <= b'9'
-}
+use length_enclosure::digits_up_to;
 
 /// The number of one or more digits, or the cap where it is above that.
 pub fn number_up_to(text: &[u8], cap: u64) -> Option<u64>
@@ -17,14 +14,8 @@ pub fn number_up_to(text: &[u8], cap: u64) -> Option<u64>
     if text.is_empty() {
         return None;
     }
-    let mut n: u64 = 0;
-    for b in text {
-        if !is_digit(*b) {
-            return None;
-        }
-        n = (10 * n + u64::from(*b - b'0')).min(cap);
-    }
-    Some(n)
+    let n = digits_up_to(text, u128::from(cap))?;
+    Some(n as u64)
 }
 
 /// A number below 2^32, written as one or more digits.

@@ -1,6 +1,6 @@
 // Reals in their text.
 ghost use Rattle.std.specs.Prelude.{◌≡◌, ◌<◌, ◌≤◌, ◌^◌, ◌++◌, true, false, [], length, min, IfSome, MatchOption, if◌then◌else◌};
-ghost use Rattle.tsplib_points.specs.Numbers.{number};
+ghost use Rattle.length_enclosure.specs.Number.{number};
 ghost use Rattle.tsplib_points.specs.Real.{is_negative, unsigned, is_decimal, is_exponent, is_real, real_in, whole_part, fraction};
 ghost use Rattle.tsplib_points.specs.Kept.{Holds, IsRead};
 ghost use Rattle.tsplib_points.specs.Reads.{Reads};

@@ -11,6 +11,6 @@ loop-b-preserved c =
     let i = c.loop-b.b-index in
     let more = number_more text i c.loop-b-test.true in
     record {
-      digits = digits_more text i c.loop-b-test.true c.loop-b.invariant.digits (sym c.is_digit.ensures ∙ c.if-not-is_digit.false);
+      digits = digits_more text i c.loop-b-test.true c.loop-b.invariant.digits (sym c.is_ascii_digit.ensures.value ∙ c.if-not-is_ascii_digit.false);
       value = omega (arith, more, c.min-n.ensures);
     }

@@ -1,9 +1,9 @@
 -- The digits on both sides of the point are one number.
 use Rattle.std.proofs.Common.{[]}
-use Rattle.tsplib_points.specs.Numbers.{number}
+use Rattle.length_enclosure.specs.Number.{number}
 use Rattle.tsplib_points.specs.Real.{is_point}
 use Rattle.tsplib_points.specs.Kept.{Holds}
-use Rattle.tsplib_points.proofs.DigitTexts.{number_none}
+use Rattle.length_enclosure.proofs.Digits.{number_none}
 use Rattle.tsplib_points.proofs.reals.decimal.Goals as goal
 
 pub returns-then-push_all-2-clause-digits : goal.returns-then-push_all-2-clause-digits

@@ -1,6 +1,7 @@
 -- One digit more: a digit above 0 moves the zeros before it into the head.
 use Rattle.std.proofs.Common.{◌≡◌, ◌-◌, arith}
-use Rattle.tsplib_points.proofs.Tens.{holds_push, holds_more, digit_low, digit_high}
+use Rattle.length_enclosure.proofs.Digits.{digit_low, digit_high}
+use Rattle.tsplib_points.proofs.Tens.{holds_push, holds_more}
 use Rattle.tsplib_points.proofs.digits.Digits.push.Goals as goal
 
 pub returns-then-b-ne48-clause-value : goal.returns-then-b-ne48-clause-value

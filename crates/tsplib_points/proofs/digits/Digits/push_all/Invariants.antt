@@ -1,6 +1,6 @@
 use Rattle.std.proofs.Common.{◌≡◌, ◌+◌, ◌≤◌, true, List, ℕ, take, ◌++◌}
 use Rattle.std.specs.List.{list_all}
-use Rattle.tsplib_points.specs.Numbers.{is_digit, number}
+use Rattle.length_enclosure.specs.Number.{is_digit, number}
 use Rattle.tsplib_points.specs.Kept.{Holds}
 use Rattle.tsplib_points.proofs.digits.Digits.push_all.Given as goal
 
