@@ -1,14 +1,14 @@
 -- Winners are flipped one after the other, and none is in the way of another.
-use Rattle.std.proofs.Common.{◌≡◌, ◌≢◌, ◌⊎◌, ℕ, ◌+◌, ◌<◌, ◌≤◌, List, [], ◌∷◌, ◌++◌, length, take, get_or, set, Option, Some, sum_by, sym, ap, ◌∙◌, refl, subst, inl, inr, ⊎_elim, All, arith}
+use Rattle.std.proofs.Common.{◌≡◌, ◌≢◌, ◌⊎◌, ℕ, ◌+◌, ◌<◌, ◌≤◌, List, [], ◌∷◌, ◌++◌, length, take, get_or, set, Option, Some, sum_by, sym, ap, ◌∙◌, refl, subst, inl, inr, ⊎_elim, arith}
 use Rattle.std.proofs.lemmas.List.{get_or_default, length-map, length-set, take_more}
 use Rattle.exact_predicates.specs.declared.edge.Edge.{Edge}
 use Rattle.exact_predicates.specs.declared.point.Point.{Point}
 use Rattle.exact_predicates.specs.declared.tri.Tri.{Tri}
 use Rattle.flip_finish.specs.declared.slot.Slot.{Slot}
-use Rattle.flip_finish.specs.Flipping.{HasQuad, IsFlipped, IsSameBut, IsShortened, Shortens, slot_d2}
+use Rattle.flip_finish.specs.Flipping.{IsFlipped, IsSameBut, IsShortened, Shortens, slot_d2}
 use Rattle.flip_finish.specs.Mesh.{IsWhole, Parts, slot_edges}
 use Rattle.flip_finish.specs.Places.{IsAt}
-use Rattle.flip_finish.specs.Winners.{AreWinners, HasPair, HasTriangle, IsWinner}
+use Rattle.flip_finish.specs.Winners.{AreWinners, HasTriangle, IsWinner}
 use Rattle.flip_finish.proofs.Shortening.{IsShortened-refl, IsShortened-trans}
 use Rattle.flip_finish.proofs.Standing.{IsAt-only, IsAt-set_other, some_at}
 use Rattle.flip_claims.specs.Rounds.{AreFlipped, AreRounds, IsRound}

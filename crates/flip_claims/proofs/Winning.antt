@@ -1,12 +1,11 @@
 -- The slots that hold both of their triangles are the winners.
-use Rattle.std.proofs.Common.{◌≡◌, ◌⊎◌, ◌↔◌, ℕ, zero, suc, ◌<◌, ◌≤◌, List, length, get_or, slice_index, Contains, sym, ap, ◌∙◌, subst, inl, inr, ⊎_elim, All, arith}
+use Rattle.std.proofs.Common.{◌≡◌, ◌↔◌, ℕ, zero, suc, ◌<◌, ◌≤◌, List, length, get_or, slice_index, Contains, sym, ap, ◌∙◌, subst, ⊎_elim, arith}
 use Rattle.std.proofs.lemmas.Bool.{cases_lt}
 use Rattle.std.proofs.lemmas.List.Elements.{All-contains}
 use Rattle.exact_predicates.specs.declared.point.Point.{Point}
 use Rattle.flip_finish.specs.declared.slot.Slot.{Slot}
 use Rattle.flip_finish.specs.Flipping.{HasQuad, Shortens}
 use Rattle.flip_finish.specs.Mesh.{IsWhole, Parts}
-use Rattle.flip_finish.specs.Places.{IsAt}
 use Rattle.flip_finish.specs.Winners.{AreWinners, HasPair, HasTriangle, IsWinner}
 use Rattle.flip_finish.proofs.Seeing.{HasLeft-down, HasLeft-up}
 use Rattle.flip_finish.proofs.Slots.{left_down, left_up}

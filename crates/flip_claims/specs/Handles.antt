@@ -1,5 +1,5 @@
 -- What contracts see of the claims and of a seat.
-use Rattle.std.specs.Prelude.{◌≡◌, ℕ, ◌<◌, ◌≤◌, List, []}
+use Rattle.std.specs.Prelude.{◌≡◌, ℕ, ◌<◌, List, []}
 use Rattle.atomic_table.specs.Seated.{TableId}
 use Rattle.flip_finish.specs.Mesh.{Parts}
 use Rattle.flip_claims.specs.declared.view.Known.{Known}

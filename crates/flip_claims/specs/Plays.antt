@@ -4,7 +4,7 @@
 --   a join, which leaves another seat empty (`joined_view`, `spent_view`), with a load of the first word.
 -- Each step is written after the seat's steps: a fetch-min with its word, its slot and the value found there. Of the loads of
 -- splits and joins there is no value.
-use Rattle.std.specs.Prelude.{◌≡◌, ℕ, ◌+◌, ◌-◌, List, [], ◌∷◌, ◌++◌}
+use Rattle.std.specs.Prelude.{◌≡◌, ℕ, ◌+◌, ◌-◌, [], ◌∷◌, ◌++◌}
 use Rattle.atomic_table.specs.Table.{Me, Step}
 use Rattle.flip_claims.specs.declared.view.Made.{Made}
 use Rattle.flip_claims.specs.declared.view.Made.TheVariants.{Min, Fork, Join}

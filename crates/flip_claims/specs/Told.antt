@@ -1,5 +1,5 @@
 -- What a seat still knows after a call.
-use Rattle.std.specs.Prelude.{◌≡◌, ℕ, List, ◌++◌, Contains}
+use Rattle.std.specs.Prelude.{◌≡◌, List, ◌++◌, Contains}
 use Rattle.flip_claims.specs.declared.view.Claimed.{Claimed}
 use Rattle.flip_claims.specs.declared.view.Made.{Made}
 use Rattle.flip_claims.specs.declared.view.Known.{Known}

@@ -1,4 +1,4 @@
-use Rattle.std.proofs.Common.{◌≡◌, ℕ, ◌↔◌, List, length, sym, subst, arith, ◌∙◌}
+use Rattle.std.proofs.Common.{◌≡◌, ℕ, ◌↔◌, List, length, sym, subst, arith}
 use Rattle.flip_finish.specs.Flipping.{Shortens}
 use Rattle.flip_claims.specs.Rounds.{AreFlipped}
 use Rattle.flip_claims.proofs.Winning.{none_wins}

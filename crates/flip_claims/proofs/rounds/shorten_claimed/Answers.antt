@@ -1,4 +1,4 @@
-use Rattle.std.proofs.Common.{◌≤◌, length, arith}
+use Rattle.std.proofs.Common.{arith}
 use Rattle.flip_finish.proofs.Minimal.{IsFlipMinimal-still}
 use Rattle.flip_claims.proofs.Flipping.{rounds_next, still}
 use Rattle.flip_claims.proofs.rounds.shorten_claimed.Goals as goal

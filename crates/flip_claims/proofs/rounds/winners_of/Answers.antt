@@ -1,7 +1,7 @@
-use Rattle.std.proofs.Common.{◌≡◌, ℕ, ◌<◌, ◌≤◌, List, length, All, AllPairs, sym, subst, arith}
+use Rattle.std.proofs.Common.{ℕ, ◌<◌, List, All, AllPairs, sym, subst, arith}
 use Rattle.flip_finish.specs.Flipping.{Shortens}
 use Rattle.flip_finish.specs.Winners.{AreWinners}
-use Rattle.flip_claims.specs.Rounds.{AreLeast, ArePicked, AreShortening, HasTwo, HoldsBoth}
+use Rattle.flip_claims.specs.Rounds.{AreLeast, ArePicked, HasTwo, HoldsBoth}
 use Rattle.flip_claims.proofs.Winning.{few_winners, has_two, shortening_are, winners_are}
 use Rattle.flip_claims.proofs.rounds.winners_of.Given.{Over}
 use Rattle.flip_claims.proofs.rounds.winners_of.Goals as goal

@@ -1,6 +1,5 @@
-use Rattle.std.proofs.Common.{ℕ, ◌+◌, ◌<◌, length, get_or, sym, ap, ◌∙◌, subst, arith}
+use Rattle.std.proofs.Common.{◌+◌, get_or, sym, ap, ◌∙◌, subst, arith}
 use Rattle.std.proofs.lemmas.List.Elements.{Contains-get_or}
-use Rattle.flip_finish.specs.Places.{IsAt}
 use Rattle.flip_claims.specs.declared.view.Known.{Known}
 use Rattle.flip_claims.proofs.Members.{stands_at}
 use Rattle.flip_claims.proofs.Stripes.{IsStripedTo, stripe_end, stripe_more}

@@ -1,4 +1,4 @@
-use Rattle.std.proofs.Common.{◌≡◌, ℕ, ◌+◌, ◌<◌, List, length, get_or, sym, ap, ◌∙◌, subst, arith}
+use Rattle.std.proofs.Common.{ℕ, ◌<◌, List, length, get_or, sym, ap, ◌∙◌, subst, arith}
 use Rattle.flip_finish.specs.Mesh.{Parts}
 use Rattle.flip_claims.specs.declared.view.Known.{Known}
 use Rattle.flip_claims.specs.Handles.{SeatView}

@@ -1,4 +1,4 @@
-use Rattle.std.proofs.Common.{◌≡◌, ◌+◌, ◌<◌, [], length, All}
+use Rattle.std.proofs.Common.{◌≡◌, ◌+◌, [], length, All}
 use Rattle.flip_claims.specs.Handles.{Belongs}
 use Rattle.flip_claims.proofs.team.recruits.Given as goal
 

@@ -1,8 +1,8 @@
-use Rattle.std.proofs.Common.{◌+◌, ℕ, List, get_or, sym, subst, arith}
+use Rattle.std.proofs.Common.{get_or, arith}
 use Rattle.std.proofs.lemmas.Bool.{both_ways}
 use Rattle.flip_claims.specs.Rounds.{HoldsBoth}
 use Rattle.flip_claims.proofs.Members.{stands_at}
-use Rattle.flip_claims.proofs.Picking.{ArePickedTo, picked_end, picked_more, picked_same}
+use Rattle.flip_claims.proofs.Picking.{picked_end, picked_more, picked_same}
 use Rattle.flip_claims.proofs.winners.holding.Goals as goal
 use Rattle.flip_claims.proofs.winners.holding.Goals.{then-holds_both+in_ok-push, else-holds_both}
 

@@ -1,4 +1,4 @@
-use Rattle.std.proofs.Common.{◌≡◌, ℕ, ◌<◌, length, min, nat_lt, if◌then◌else◌, Contains, sym, ap, ◌∙◌, subst, arith}
+use Rattle.std.proofs.Common.{◌≡◌, ◌<◌, length, Contains, sym, ap, ◌∙◌, subst, arith}
 use Rattle.flip_finish.specs.Flipping.{Shortens}
 use Rattle.flip_finish.specs.Mesh.{Parts}
 use Rattle.flip_finish.specs.Winners.{HasTriangle}

@@ -1,7 +1,7 @@
-use Rattle.std.proofs.Common.{◌≡◌, ◌⊎◌, ℕ, ◌<◌, ◌≤◌, List, length, slice_index, Contains, sym, ap, ◌∙◌, subst, arith}
+use Rattle.std.proofs.Common.{◌≡◌, ◌⊎◌, ℕ, ◌<◌, List, length, slice_index, Contains, sym, ap, ◌∙◌, subst, arith}
 use Rattle.flip_claims.specs.Handles.{ClaimsView, SeatView}
 use Rattle.flip_claims.specs.Rule.{claim_on}
-use Rattle.flip_claims.specs.Words.{most_seats, unclaimed}
+use Rattle.flip_claims.specs.Words.{unclaimed}
 use Rattle.flip_claims.proofs.Closes.{taken_claimed, taken_least}
 use Rattle.flip_claims.proofs.handles.Claims.close.Goals as goal
 

@@ -1,4 +1,4 @@
-use Rattle.std.proofs.Common.{◌≡◌, sym, ap, ◌∙◌, subst, arith}
+use Rattle.std.proofs.Common.{sym, ap, ◌∙◌, subst, arith}
 use Rattle.flip_claims.specs.declared.view.Known.{Known}
 use Rattle.flip_claims.specs.Handles.{SeatView}
 use Rattle.flip_claims.specs.Plays.{Sitting, joined_view}
