@@ -107,15 +107,6 @@ pub record AreFlippedTo (ps : List Point) (old now : Parts) (winners : List ℕ)
   pub whole : IsWhole old → IsWhole now
   pub falls : sum_by (slot_d2 ps) now.slots + k ≤ sum_by (slot_d2 ps) old.slots
 
-pub flips_start : (ps : List Point) (m : Parts) (winners : List ℕ) → AreFlippedTo ps m m winners 0
-flips_start ps m winners = record {
-  flipped = refl;
-  untouched = λ j p past at_j. record { slot = λ s h. h; tris = λ t tri has h. h };
-  shortened = IsShortened-refl ps m;
-  whole = λ w. w;
-  falls = omega arith;
-}
-
 module _ (ps : List Point) (old : Parts) (winners : List ℕ) (are : AreWinners ps old winners) where
   winner_at : (k w : ℕ) → IsAt winners k w → IsWinner ps old w
   winner_at k w at_k = subst (IsWinner ps old) at_k.is (are.each k w at_k.inside)
@@ -161,9 +152,6 @@ pub record AreRoundsTo (ps : List Point) (old now : Parts) : Type 0 where
   pub rounds : List (List ℕ)
   pub made : AreRounds ps old rounds now
   pub shortened : IsShortened ps old now
-
-pub rounds_start : (ps : List Point) (m : Parts) → AreRoundsTo ps m m
-rounds_start ps m = record { rounds = []; made = refl; shortened = IsShortened-refl ps m }
 
 pub rounds_next : (ps : List Point) (old mid new : Parts) (winners : List ℕ) → AreRoundsTo ps old mid → IsRound ps mid winners new → IsShortened ps mid new → AreRoundsTo ps old new
 rounds_next ps old mid new winners h r s = record {

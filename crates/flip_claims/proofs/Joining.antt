@@ -20,15 +20,6 @@ pub record IsJoinedTo (all : List SeatView) (d d' : Known) (left : List SeatView
   pub own : (c : Claimed) → Contains d'.claimed c → Contains d.claimed c ⊎ Any (λ s. Contains s.known.claimed c) all
   pub joined : (k : ℕ) (s : SeatView) (c : Claimed) → length left ≤ k → IsAt all k s → Contains s.known.claimed c → Contains d'.claimed c
 
-pub join_start : (all : List SeatView) (d : Known) → IsJoinedTo all d d all
-join_start all d = record {
-  prefix = λ k s h. h;
-  few = omega arith;
-  shares = omega arith;
-  own = λ c has. inl has;
-  joined = λ k s c past h. let l = h.inside in absurd (omega arith);
-}
-
 pub join_more : (all : List SeatView) (d e : Known) (left front : List SeatView) (s : SeatView) → left ≡ front ++ s ∷ [] → s.known.shares ≡ 1 → IsJoinedTo all d e left
     → IsJoinedTo all d (joined_view e s.known) front
 join_more all d e left front s is one h =

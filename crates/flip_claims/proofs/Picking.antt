@@ -71,13 +71,6 @@ pub record AreNumbers (ys : List ℕ) (k : ℕ) : Type 0 where
   pub below : All (λ y. y < k) ys
   pub all : (x : ℕ) → x < k → Contains ys x
 
-pub numbers_start : AreNumbers [] 0
-numbers_start = record {
-  ascending = λ i j d l m. absurd (omega arith);
-  below = λ i d l. absurd (omega arith);
-  all = λ x l. absurd (omega arith);
-}
-
 pub numbers_more : (ys : List ℕ) (k : ℕ) → AreNumbers ys k → AreNumbers (ys ++ k ∷ []) (k + 1)
 numbers_more ys k h = record {
   ascending = all_pairs_push (λ y z. y < z) ys k h.ascending h.below;

@@ -22,22 +22,6 @@ blank_holds ws d none = record {
 }
 
 module _ (k : About) where
-  pub starts : (ws : List ℕ) → length ws ≡ length k.mesh.value.tris + 1 → ((t : ℕ) → t < length k.mesh.value.tris → get_or ws t 0 ≡ unclaimed) → 0 < k.seats → k.seats ≤ 65
-      → ClaimsHold k (opening ws [] (first_view k))
-  starts ws wide free some_seat few =
-      let v : Known = first_view k in
-      record {
-        wide = wide;
-        words = λ t t_in. inl (free t t_in);
-        each = λ j d h. ⊎_elim
-            (λ (none : get_elem? [] j ≡ some d). absurd (some-ne-none d (sym none)))
-            (λ (is : v ≡ d). subst (ViewHolds ws) is (blank_holds ws v refl))
-            (at_snoc [] v d j h);
-        seated = omega arith;
-        claimed = λ t t_in. inl (free t t_in);
-        shared = omega arith;
-      }
-
   pub splits : (id : ℕ) (d : Known) → 0 < d.splits → d.splits < d.shares → Splits (ClaimsHold k) id d (left_view d) (right_view d)
   splits id d some_left has_shares s r at =
       let w : Known = left_view d in

@@ -21,16 +21,6 @@ pub record IsStripedTo (m : Parts) (slots : List ℕ) (workers number : ℕ) (d 
   pub all : (k s t : ℕ) → k < place → IsAt slots k s → k % workers ≡ number → HasTriangle m s t → Contains d.claimed (claim_on t s)
   pub turn : place % workers ≡ number
 
-pub stripe_start : (m : Parts) (slots : List ℕ) (workers number : ℕ) (d : Known) → number < workers → d.claimed ≡ [] → IsStripedTo m slots workers number d number
-stripe_start m slots workers number d low none = record {
-  own = λ t s has. absurd (Contains-nil (claim_on t s) (rw none at has));
-  all = λ k s t before at_k mine has.
-      let small : k < workers = omega arith in
-      let same : k ≡ number = sym (mod-eq_of_lt small) ∙ mine in
-      absurd (omega arith);
-  turn = mod-eq_of_lt low;
-}
-
 pub stripe_more : (m : Parts) (slots : List ℕ) (workers number : ℕ) (d : Known) (place slot l r x y : ℕ) → IsStripedTo m slots workers number d place → IsAt slots place slot → Contains slots slot → HasPair m slot l r
     → IsStripedTo m slots workers number (claimed_view r slot y (claimed_view l slot x d)) (place + workers)
 stripe_more m slots workers number d place slot l r x y h at_place slot_in pair =
