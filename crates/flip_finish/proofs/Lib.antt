@@ -12,6 +12,7 @@ pub mod HalfSums
 pub mod HullSums
 pub mod Minimal
 pub mod PairedHalves
+pub mod Pairing
 pub mod Quads
 pub mod Seeing
 pub mod Shortening

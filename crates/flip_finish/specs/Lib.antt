@@ -6,3 +6,4 @@ pub mod Mesh
 pub mod Places
 pub mod Slot
 pub mod Slotted
+pub mod Winners

@@ -1,5 +1,6 @@
 // The mesh, and the flip of one edge.
-ghost use Rattle.std.specs.Prelude.{◌≡◌, ◌↔◌, ◌<◌, ℕ, List, All, AllPairs, IsTrue, IfOk, IsPermutation, IsSorted, length, slice_get, Some, sum_by};
+ghost use Rattle.std.specs.Prelude.{◌≡◌, ◌↔◌, ◌<◌, ℕ, List, All, AllPairs, IsTrue, IsNone, IfOk, IfSome, MatchOption, IsPermutation, IsSorted, length, slice_get, Some, sum_by};
+ghost use Rattle.exact_predicates.specs.declared.point.Point.{Point};
 ghost use Rattle.exact_predicates.specs.Hull.{IsHull};
 ghost use Rattle.exact_predicates.specs.Triangulation.{IsTriangulation, tri_cmp};
 
@@ -35,6 +36,7 @@ impl Model for Mesh {
 impl Mesh {
     ghost use Rattle.flip_finish.specs.Flipping.{IsFlipped, IsLowered, IsShortened, Shortens, slot_d2};
     ghost use Rattle.flip_finish.specs.Mesh.{IsMeshOf, IsUpTo, IsWhole, IsWithin, slot_edges};
+    ghost use Rattle.flip_finish.specs.Winners.{HasPair, IsOnHull, LacksTriangle};
 
     /// The mesh of a triangulation. Its triangles are in the order of the list, its slots in ascending
     /// order of their edges. For n points it takes time n log n. `NoMemory` is the only error.
@@ -72,6 +74,28 @@ impl Mesh {
         ensures { slice_get (slot_edges self.now.slots) slot ≡ Some result }
     {
         self.slots[slot as usize].edge
+    }
+
+    /// How many triangles there are.
+    pub fn count(&self) -> u32
+        ensures { result ≡ length self.now.tris }
+    {
+        self.faces.len() as u32
+    }
+
+    /// The numbers of the slot's two triangles, the left one first. None exactly where the edge is one of
+    /// the hull.
+    pub fn pair(&self, slot: u32) -> Option<(u32, u32)>
+        requires { slot < length self.now.slots }
+        ensures pair { MatchOption result (LacksTriangle self.now slot) (λ p. HasPair self.now slot p.0 p.1) }
+        ensures below { IfSome result (λ p. (p.0 < length self.now.tris) × (p.1 < length self.now.tris)) }
+        ensures hull { (ps : List Point) (hull : List ℕ) → IsMeshOf ps hull self.now →
+            (IsNone result ↔ IsOnHull hull self.now slot) }
+    {
+        let it = self.slots[slot as usize];
+        let left = it.left?;
+        let right = it.right?;
+        Some((left, right))
     }
 
     /// Whether a flip of the slot's edge makes it strictly shorter: it has triangles on both sides,

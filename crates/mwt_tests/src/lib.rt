@@ -9,6 +9,8 @@ mod callers;
 #[cfg(test)]
 mod cells;
 #[cfg(test)]
+mod claimed_flips;
+#[cfg(test)]
 mod enumeration;
 #[cfg(test)]
 mod faults;

@@ -1,0 +1,15 @@
+pub mod Claiming
+pub mod Closes
+pub mod Flipping
+pub mod Gathering
+pub mod Joining
+pub mod Lowers
+pub mod Members
+pub mod Picking
+pub mod Remembering
+pub mod Seats
+pub mod Sitters
+pub mod Stripes
+pub mod Totals
+pub mod Triangles
+pub mod Winning

@@ -1,0 +1,15 @@
+use Rattle.std.proofs.Common.{get_or}
+use Rattle.flip_claims.proofs.Flipping.{flips_more, next_shortens}
+use Rattle.flip_claims.proofs.Members.{stands_at}
+use Rattle.flip_claims.proofs.winners.flip_all.Goals as goal
+
+pub flip-requires : goal.flip-requires
+flip-requires c = record {
+  shortens = next_shortens c.args.points.now.points c.args.mesh.now c.args.winners.now c.requires c.loop-slot.mesh c.loop-slot.slot-index (get_or c.args.winners.now c.loop-slot.slot-index 0) c.loop-slot.invariant
+      (stands_at c.args.winners.now c.loop-slot.slot-index c.loop-slot-test.true);
+}
+
+pub loop-slot-preserved : goal.loop-slot-preserved
+loop-slot-preserved c =
+    flips_more c.args.points.now.points c.args.mesh.now c.args.winners.now c.requires c.loop-slot.mesh c.flip.new.self c.loop-slot.slot-index (get_or c.args.winners.now c.loop-slot.slot-index 0) c.loop-slot.invariant
+    (stands_at c.args.winners.now c.loop-slot.slot-index c.loop-slot-test.true) c.flip.ensures.flipped c.flip.ensures.shortened c.flip.ensures.whole c.flip.ensures.falls

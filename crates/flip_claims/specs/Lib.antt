@@ -1,0 +1,7 @@
+pub mod Answers
+pub mod Handles
+pub mod Plays
+pub mod Rounds
+pub mod Rule
+pub mod Told
+pub mod Words
