@@ -41,9 +41,7 @@ use Rattle.tsplib_points.specs.declared.file.File.{File}
 use Rattle.tsplib_points.specs.Files.{IsFileOf, nodes_of}
 use Rattle.tsplib_points.specs.Refusals.{scaled}
 use Rattle.mwt_tool.specs.declared.solver.Settings.{Settings}
-use Rattle.mwt_tool.specs.declared.solving.Form.TheVariants.{Whole}
 use Rattle.mwt_tool.specs.ReportOf.{HasAscentPrices, IsReportOf}
-use Rattle.mwt_tool.specs.Solves.{ReportsAs, Solves, solved, accepted, refused as file_refused, dense_edges as has_dense_edges, dense_triangles as has_dense_triangles}
 
 -- the points of a good report are those of a problem
 point_set : (r : Report) → IsGoodReport r → IsPointSet r.points
