@@ -1,8 +1,8 @@
 // The text of killed edges.
-ghost use Rattle.std.specs.Prelude.{◌≡◌, ◌<◌, ◌^◌, [], ◌∷◌, ◌++◌, IfOk, OnOk, length, map, decimal};
+ghost use Rattle.std.specs.Prelude.{◌≡◌, ◌<◌, [], ◌∷◌, ◌++◌, IfOk, OnOk, length, map, decimal};
 ghost use Rattle.lmt_network.specs.Network.{IsNetwork};
 ghost use Rattle.cert_text.specs.Texts.{Grows, edge_fields, spaced};
-ghost use Rattle.mwt_tool.specs.Kills.{kill_fields, kill_text, killed};
+ghost use Rattle.mwt_tool.specs.Kills.{is_killed, kill_fields, kill_text, killed};
 
 use crate::summary::write_count;
 use exact_predicates::Edge;
@@ -26,13 +26,20 @@ pub fn kill_text(alloc: Global, net: &Network, ranks: &Ranks) -> Result<Vec<u8>,
     Ok(text)
 }
 
+fn is_killed(ranks: &Ranks, e: u32) -> bool
+    requires { e < length ranks.now }
+    ensures { result ≡ is_killed ranks.now e }
+{
+    ranks.get(e) != 0
+}
+
 // How many edges are killed.
 fn killed(ranks: &Ranks) -> u32
     ensures { result ≡ length (killed ranks.now) }
 {
     let mut count = 0;
     for e in 0..ranks.len() {
-        if ranks.get(e) != 0 {
+        if is_killed(ranks, e) {
             count += 1;
         }
     }
@@ -46,7 +53,7 @@ fn write_kills(text: &mut Vec<u8>, net: &Network, ranks: &Ranks) -> Result<(), A
         (map (λ e. spaced (kill_fields net.now ranks.now e)) (killed ranks.now))) }
 {
     for e in 0..ranks.len() {
-        if ranks.get(e) != 0 {
+        if is_killed(ranks, e) {
             write_kill(text, net.edge(e), ranks.get(e))?;
         }
     }

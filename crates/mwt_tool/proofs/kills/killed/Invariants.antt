@@ -1,5 +1,5 @@
 use Rattle.std.proofs.Common.{◌≡◌, ◌≤◌, length}
-use Rattle.mwt_tool.proofs.Kills.{killed_before}
+use Rattle.mwt_tool.proofs.KilledRows.{killed_before}
 use Rattle.mwt_tool.proofs.kills.killed.Given as goal
 
 abbrev pub invariant-loop-e : goal.invariant-loop-e

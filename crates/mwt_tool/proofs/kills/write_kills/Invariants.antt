@@ -1,5 +1,5 @@
 use Rattle.cert_text.specs.Texts.{Grows}
-use Rattle.mwt_tool.proofs.Kills.{kill_rows, killed_before}
+use Rattle.mwt_tool.proofs.KilledRows.{kill_rows, killed_before}
 use Rattle.mwt_tool.proofs.kills.write_kills.Given as goal
 
 abbrev pub invariant-loop-e : goal.invariant-loop-e
