@@ -14,10 +14,10 @@ use std::alloc::Global;
 use std::thread::Threads;
 use ticket_marks::rank_all;
 
-/// The text of the killed edges of these points, each with a rank. An edge that is killed has a rank above
-/// those of the edges that took its supports, so one pass can check that none of them is live. The answers
-/// `DenseEdges` and `DenseTriangles` come as from `solve`. More than one worker may give other ranks from
-/// run to run, and always the same killed edges; `gate` is called by them.
+/// The text of the killed edges of these points, each with a rank. Each locally minimal pair of a killed edge
+/// has another side that is killed with a lower rank, so one pass can check that none of them is live. The
+/// answers `DenseEdges` and `DenseTriangles` come as from `solve`. Several workers may give other ranks from
+/// run to run, and always kill the same edges; `gate` is called by them.
 pub fn explain<R: Threads + Sync, G: Gate>(
     rt: &R,
     alloc: Global,
