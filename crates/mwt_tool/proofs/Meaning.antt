@@ -22,7 +22,7 @@ use Rattle.mwt_tool.specs.Words.{AskFor}
 use Rattle.mwt_tool.specs.Makes.{made_text}
 use Rattle.mwt_tool.specs.declared.solving.Form.{Form}
 use Rattle.mwt_tool.specs.declared.solving.Form.TheVariants.{Whole, Summary, Kills}
-use Rattle.mwt_tool.specs.Solves.{IsSolvable, AnswersFile, AnswersInput, refused, accepted, dense_edges, dense_triangles, told}
+use Rattle.mwt_tool.specs.Solves.{IsSolvable, AnswersFile, AnswersInput, refused, accepted, dense_edges, dense_triangles, tells}
 use Rattle.mwt_tool.proofs.Checked.{Checks-valid, valid_short}
 
 pub asked-reads : (words : List (List ℕ)) (mode : Mode) → AskFor mode words → Reads mode → ReadsInput words
@@ -114,7 +114,7 @@ AnswersFile-done : (form : Form) (settings : Settings) (file : File) (status : S
     → AnswersFile form file settings status text → status ≡ Done
 AnswersFile-done form settings file status text within (dense_edges many says) = absurd (within.edges many)
 AnswersFile-done form settings file status text within (dense_triangles many says) = absurd (within.triangles many)
-AnswersFile-done form settings file status text within (told same done says) = done
+AnswersFile-done form settings file status text within (tells within_is done says) = done
 
 AnswersInput-done : (form : Form) (settings : Settings) (input : List ℕ) (status : Status) (text : List ℕ) → IsSolvable settings input
     → AnswersInput form settings input status text → status ≡ Done

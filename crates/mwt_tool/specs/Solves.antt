@@ -30,7 +30,7 @@ pub data AnswersFile (form : Form) (file : File) (settings : Settings) (status :
   dense_edges : HasTooManyEdges file.points.points settings.diamond → Refuses DenseEdges status text → AnswersFile form file settings status text
   dense_triangles : HasTooManyTriangles file.points.points settings.diamond → Refuses DenseTriangles status text
       → AnswersFile form file settings status text
-  told : IsWithinLimits file.points.points settings.diamond → status ≡ Done → Tells form file settings text
+  tells : IsWithinLimits file.points.points settings.diamond → status ≡ Done → Tells form file settings text
       → AnswersFile form file settings status text
 
 -- For an input: why it is no accepted file, or what there is to say of what it holds.
