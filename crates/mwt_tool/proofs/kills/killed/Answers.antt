@@ -1,4 +1,4 @@
-use Rattle.std.proofs.Common.{ℕ, List, [], ◌∷◌, length, ap, arith, sym, ◌∙◌, length-append}
+use Rattle.std.proofs.Common.{ℕ, [], ◌∷◌, length, ap, arith, sym, ◌∙◌, length-append}
 use Rattle.mwt_tool.proofs.KilledRows.{killed_before, killed_next_dead, killed_next_live}
 use Rattle.mwt_tool.proofs.kills.killed.Goals as goal
 use Rattle.mwt_tool.proofs.kills.killed.Goals.{then-is_killed, else-is_killed}
