@@ -9,7 +9,7 @@ echo "$(find crates -path '*/must-fail/*.edit' | wc -l) wrong bodies that must b
 echo "$(grep -rh --include='*.rt' '^ *#\[test\]' crates | wc -l) tests"
 echo "$(find examples -type f | wc -l) files in examples/"
 cat crates/mwt_cases/data/*.case | awk '
-    /^words/ && !inside { mode = "other words"; for (i = 2; i <= NF; i++) if ($i ~ /^(solve|check|make|trial)$/) mode = $i; inside = 1; next }
+    /^words/ && !inside { mode = "other words"; for (i = 2; i <= NF; i++) if ($i ~ /^(solve|check|make|trial|explain)$/) mode = $i; inside = 1; next }
     inside == 1 && /^status / { status = $2; next }
     inside && /^output$/ { inside = 2; next }
     inside == 2 {

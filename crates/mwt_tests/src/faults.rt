@@ -39,7 +39,12 @@ fn each_read_of_a_mode_fails_in_turn(rt: HostRuntime) -> Result<(), Fail> {
     let alloc = rt.alloc();
     let file = file(alloc)?;
     let report = Run::over(&rt, alloc, &["solve"], file.clone()?)?.text;
-    for (mode, input) in [("solve", file.as_slice()), ("check", report.as_bytes())] {
+    let rows = [
+        ("solve", file.as_slice()),
+        ("check", report.as_bytes()),
+        ("explain", file.as_slice()),
+    ];
+    for (mode, input) in rows {
         let reads = (input.chunks(16).count() as u64).saturating_add(1);
         for before in 0..reads {
             let failing = vec![in alloc; before.saturating_add(1)]?;
@@ -85,6 +90,7 @@ fn each_write_of_a_mode_fails_in_turn(rt: HostRuntime) -> Result<(), Fail> {
     let file = file(alloc)?;
     let report = Run::over(&rt, alloc, &["solve"], file.clone()?)?.text;
     writes_fail_in_turn(&rt, alloc, &["solve"], &file)?;
+    writes_fail_in_turn(&rt, alloc, &["explain"], &file)?;
     writes_fail_in_turn(&rt, alloc, &["check"], report.as_bytes())?;
     writes_fail_in_turn(&rt, alloc, &["make", "--points", "3"], b"")?;
     writes_fail_in_turn(&rt, alloc, &["trial", "--points", "3"], b"")

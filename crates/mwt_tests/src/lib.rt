@@ -39,6 +39,8 @@ mod point_files;
 #[cfg(test)]
 mod prices;
 #[cfg(test)]
+mod ranks;
+#[cfg(test)]
 mod refusals;
 #[cfg(test)]
 mod sets;

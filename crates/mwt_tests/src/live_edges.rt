@@ -27,8 +27,8 @@ fn has(edges: &[Ends], u: u32, v: u32) -> bool {
     edges.contains(&(u.min(v), u.max(v)))
 }
 
-// Whether uva is an empty triangle, counter-clockwise, with all its sides among the edges.
-fn is_over(points: &Points, edges: &[Ends], u: u32, v: u32, a: u32) -> bool {
+/// Whether uva is an empty triangle, counter-clockwise, with all its sides among the edges.
+pub fn is_over(points: &Points, edges: &[Ends], u: u32, v: u32, a: u32) -> bool {
     let (Some(p), Some(q), Some(r)) = (at(points, u), at(points, v), at(points, a)) else {
         return false;
     };

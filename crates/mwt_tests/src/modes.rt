@@ -1,7 +1,7 @@
 // The modes together: what one writes, another reads, and which of them read at all. Whole texts of each
 // mode are among the cases of `mwt_cases`.
 
-use crate::helpers::{Run, bytes_of, mem_sink, plain_file, words_of};
+use crate::helpers::{FIVE, Run, bytes_of, mem_sink, plain_file, words_of};
 use mwt_base::{MeetGate, MemSource, OpenGate, Status, SureSink, SureSource, read_whole};
 use mwt_tool::run;
 use std::alloc::Global;
@@ -16,7 +16,7 @@ const SUMMARY_OF_200: &str =
 fn source_left_alone(rt: HostRuntime) -> Result<(), Fail> {
     let alloc = rt.alloc();
     let rows: [(&[&str], Status); 4] = [
-        (&["explain"], Status::Refused),
+        (&["explains"], Status::Refused),
         (&["check", "--seed", "0"], Status::Refused),
         (&["make"], Status::Done),
         (&["trial", "--points", "3"], Status::Done),
@@ -54,14 +54,16 @@ fn make_over_faults(rt: HostRuntime) -> Result<(), Fail> {
 #[test]
 fn two_workers_meet_in_run(rt: HostRuntime) -> Result<(), Fail> {
     let alloc = rt.alloc();
-    let words = words_of(alloc, &["solve", "--diamond", "off", "--workers", "2"])?;
-    let file = plain_file(alloc, &[(0, 0), (2, -2), (7, -3), (10, 0), (5, 1)])?;
-    let mut source = SureSource::new(bytes_of(file)?, 64);
-    let mut sink = SureSink::new(alloc, 4096).map_err(|_| Fail::from("no memory"))?;
-    let gate = MeetGate::new();
-    let status = run(&rt, alloc, &words, &mut source, &mut sink, &gate);
-    assert_eq!(rt; status, Status::Done);
-    assert_eq!(rt; gate.misses(), 0);
+    for mode in ["solve", "explain"] {
+        let words = words_of(alloc, &[mode, "--diamond", "off", "--workers", "2"])?;
+        let file = plain_file(alloc, &FIVE)?;
+        let mut source = SureSource::new(bytes_of(file)?, 64);
+        let mut sink = SureSink::new(alloc, 4096).map_err(|_| Fail::from("no memory"))?;
+        let gate = MeetGate::new();
+        let status = run(&rt, alloc, &words, &mut source, &mut sink, &gate);
+        assert_eq!(rt; status, Status::Done, "{mode}");
+        assert_eq!(rt; gate.misses(), 0, "{mode}");
+    }
     Ok(())
 }
 

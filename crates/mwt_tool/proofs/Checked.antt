@@ -20,7 +20,7 @@ use Rattle.mwt_tool.specs.declared.solver.Settings.{Settings}
 use Rattle.mwt_tool.specs.Checks.{Checks, Decides, IsValidText, refused, read, dense_edges, dense_triangles, broken, valid}
 use Rattle.mwt_tool.specs.ReportOf.{IsReportOf}
 use Rattle.mwt_tool.specs.declared.solving.Form.TheVariants.{Whole}
-use Rattle.mwt_tool.specs.Solves.{ReportsAs, Solves, solved, accepted, refused as file_refused, dense_edges as has_dense_edges, dense_triangles as has_dense_triangles}
+use Rattle.mwt_tool.specs.Solves.{AnswersFile, Solves, tells, accepted, refused as file_refused, dense_edges as has_dense_edges, dense_triangles as has_dense_triangles}
 
 -- where all parts hold, none is the first that fails
 not_first : (ps : Parts) (first k : ℕ) → AllHold ps → ¬ FailsFirst first ps k
@@ -67,11 +67,11 @@ report_is_valid file settings r within is = record {
       (subst (λ (ps : List Point). IsWithinLimits ps settings.diamond) (sym is.points) within);
 }
 
-ReportsAs-valid : (file : File) (settings : Settings) (text : List ℕ) → ReportsAs Whole file settings Done text → IsValidText text
-ReportsAs-valid file settings text (has_dense_edges many says) = absurd (cc says.0)
-ReportsAs-valid file settings text (has_dense_triangles many says) = absurd (cc says.0)
-ReportsAs-valid file settings text (solved r within is done_is same) = subst IsValidText (sym same) (report_is_valid file settings r within is)
+AnswersFile-valid : (file : File) (settings : Settings) (text : List ℕ) → AnswersFile Whole file settings Done text → IsValidText text
+AnswersFile-valid file settings text (has_dense_edges many says) = absurd (cc says.0)
+AnswersFile-valid file settings text (has_dense_triangles many says) = absurd (cc says.0)
+AnswersFile-valid file settings text (tells within done_is (r, is, same)) = subst IsValidText (sym same) (report_is_valid file settings r within is)
 
 pub Solves-valid : (settings : Settings) (input text : List ℕ) → Solves settings input Done text → IsValidText text
 Solves-valid settings input text (file_refused why is says) = absurd (cc says.0)
-Solves-valid settings input text (accepted file of reports) = ReportsAs-valid file settings text reports
+Solves-valid settings input text (accepted file of reports) = AnswersFile-valid file settings text reports

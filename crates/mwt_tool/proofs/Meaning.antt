@@ -12,7 +12,7 @@ use Rattle.tsplib_points.specs.declared.file.File.{File}
 use Rattle.mwt_tool.specs.declared.refusal.Refusal.TheVariants.{Usage, TooLong}
 use Rattle.mwt_tool.specs.declared.solver.Settings.{Settings}
 use Rattle.mwt_tool.specs.declared.words.Mode.{Mode}
-use Rattle.mwt_tool.specs.declared.words.Mode.TheVariants.{Check, Make, Solve, Trial}
+use Rattle.mwt_tool.specs.declared.words.Mode.TheVariants.{Check, Explain, Make, Solve, Trial}
 use Rattle.mwt_tool.specs.Checks.{IsValidText}
 use Rattle.mwt_tool.specs.Intends.{Intends, ReadsInput, usage, too_long, answered}
 use Rattle.mwt_tool.specs.Modes.{Accepts, Answers, Reads}
@@ -21,8 +21,8 @@ use Rattle.mwt_tool.specs.Said.{Means, IsAcceptedInput}
 use Rattle.mwt_tool.specs.Words.{AskFor}
 use Rattle.mwt_tool.specs.Makes.{made_text}
 use Rattle.mwt_tool.specs.declared.solving.Form.{Form}
-use Rattle.mwt_tool.specs.declared.solving.Form.TheVariants.{Whole, Summary}
-use Rattle.mwt_tool.specs.Solves.{IsSolvable, ReportsAs, SolvesAs, refused, accepted, dense_edges, dense_triangles, solved}
+use Rattle.mwt_tool.specs.declared.solving.Form.TheVariants.{Whole, Summary, Kills}
+use Rattle.mwt_tool.specs.Solves.{IsSolvable, AnswersFile, AnswersInput, refused, accepted, dense_edges, dense_triangles, tells}
 use Rattle.mwt_tool.proofs.Checked.{Checks-valid, valid_short}
 
 pub asked-reads : (words : List (List ℕ)) (mode : Mode) → AskFor mode words → Reads mode → ReadsInput words
@@ -37,6 +37,7 @@ reads_or_not (Solve settings) = inl tt
 reads_or_not Check = inl tt
 reads_or_not (Make making) = inr (λ reads. reads)
 reads_or_not (Trial settings making) = inr (λ reads. reads)
+reads_or_not (Explain settings) = inl tt
 
 -- where a mode does not read, the input does not matter
 Answers-unread : (mode : Mode) (a b : List ℕ) (status : Status) (text : List ℕ) → ¬ Reads mode → Answers mode a status text → Answers mode b status text
@@ -44,12 +45,14 @@ Answers-unread (Solve settings) a b status text never answers = absurd (never tt
 Answers-unread Check a b status text never answers = absurd (never tt)
 Answers-unread (Make making) a b status text never answers = answers
 Answers-unread (Trial settings making) a b status text never answers = answers
+Answers-unread (Explain settings) a b status text never answers = absurd (never tt)
 
 Accepts-unread : (mode : Mode) (a b : List ℕ) → ¬ Reads mode → Accepts mode a → Accepts mode b
 Accepts-unread (Solve settings) a b never accepts = absurd (never tt)
 Accepts-unread Check a b never accepts = absurd (never tt)
 Accepts-unread (Make making) a b never accepts = accepts
 Accepts-unread (Trial settings making) a b never accepts = accepts
+Accepts-unread (Explain settings) a b never accepts = absurd (never tt)
 
 -- an input that fits what the source tells
 abbrev told_input : Option (List ℕ) → List ℕ
@@ -107,23 +110,24 @@ Means-unread words had mode status text asked never answers = record {
 }
 
 -- an accepted file whose points are within the limits is answered with Done
-ReportsAs-done : (form : Form) (settings : Settings) (file : File) (status : Status) (text : List ℕ) → IsWithinLimits file.points.points settings.diamond
-    → ReportsAs form file settings status text → status ≡ Done
-ReportsAs-done form settings file status text within (dense_edges many says) = absurd (within.edges many)
-ReportsAs-done form settings file status text within (dense_triangles many says) = absurd (within.triangles many)
-ReportsAs-done form settings file status text within (solved report same is done says) = done
+AnswersFile-done : (form : Form) (settings : Settings) (file : File) (status : Status) (text : List ℕ) → IsWithinLimits file.points.points settings.diamond
+    → AnswersFile form file settings status text → status ≡ Done
+AnswersFile-done form settings file status text within (dense_edges many says) = absurd (within.edges many)
+AnswersFile-done form settings file status text within (dense_triangles many says) = absurd (within.triangles many)
+AnswersFile-done form settings file status text within (tells within_is done says) = done
 
-SolvesAs-done : (form : Form) (settings : Settings) (input : List ℕ) (status : Status) (text : List ℕ) → IsSolvable settings input
-    → SolvesAs form settings input status text → status ≡ Done
-SolvesAs-done form settings input status text fine (refused why is says) = let none = fine.accepted in cc (none, is)
-SolvesAs-done form settings input status text fine (accepted file of reports) = ReportsAs-done form settings file status text (fine.points file of) reports
+AnswersInput-done : (form : Form) (settings : Settings) (input : List ℕ) (status : Status) (text : List ℕ) → IsSolvable settings input
+    → AnswersInput form settings input status text → status ≡ Done
+AnswersInput-done form settings input status text fine (refused why is says) = let none = fine.accepted in cc (none, is)
+AnswersInput-done form settings input status text fine (accepted file of reports) = AnswersFile-done form settings file status text (fine.points file of) reports
 
 -- an input that a mode accepts is answered with Done
 Answers-done : (mode : Mode) (input : List ℕ) (status : Status) (text : List ℕ) → Accepts mode input → Answers mode input status text → status ≡ Done
-Answers-done (Solve settings) input status text fine answers = SolvesAs-done Whole settings input status text fine.1 answers
+Answers-done (Solve settings) input status text fine answers = AnswersInput-done Whole settings input status text fine.1 answers
 Answers-done Check input status text fine answers = (Checks-valid input status text fine answers).0
 Answers-done (Make making) input status text fine answers = answers.0
-Answers-done (Trial settings making) input status text fine answers = SolvesAs-done Summary settings (made_text making.seed making.points) status text fine answers
+Answers-done (Trial settings making) input status text fine answers = AnswersInput-done Summary settings (made_text making.seed making.points) status text fine answers
+Answers-done (Explain settings) input status text fine answers = AnswersInput-done Kills settings input status text fine.1 answers
 
 -- an input that a mode reads and accepts is within the limit
 Accepts-short : (mode : Mode) (input : List ℕ) → Reads mode → Accepts mode input → length input ≤ most_bytes
@@ -131,6 +135,7 @@ Accepts-short (Solve settings) input reads fine = fine.0
 Accepts-short Check input reads fine = valid_short input fine
 Accepts-short (Make making) input reads fine = absurd reads
 Accepts-short (Trial settings making) input reads fine = absurd reads
+Accepts-short (Explain settings) input reads fine = fine.0
 
 Intends-done : (words : List (List ℕ)) (input : List ℕ) (mode : Mode) (status : Status) (text : List ℕ) → AskFor mode words
     → Accepts mode input → Intends words input status text → status ≡ Done

@@ -1,28 +1,23 @@
 -- Two good reports of the same points, with the same value of the diamond test: their edges, and the prices of an ascent.
-use Rattle.std.proofs.Common.{◌≡◌, ◌⊎◌, ℕ, ◌<◌, ◌==◌, Bool, true, false, cond, List, [], ◌∷◌, length, map, filter, get_or, All, AllPairs, Contains, ℤ, refl, ap, sym, ◌∙◌, subst, arith}
-use Rattle.std.specs.Prelude.{Decides}
+use Rattle.std.proofs.Common.{◌≡◌, ℕ, ◌<◌, ◌==◌, Bool, true, false, cond, List, [], length, filter, get_or, AllPairs, Contains, refl, ap, sym, ◌∙◌, subst, arith}
 use Rattle.std.proofs.lemmas.Bool.Decides.{Decides-not}
 use Rattle.std.proofs.lemmas.List.{ext_get_or}
 use Rattle.std.proofs.lemmas.List.Elements.{All-weaker}
-use Rattle.std.proofs.lemmas.List.Sorted.{Contains-permutation, IsPermutation-sym}
-use Rattle.mwt_base.specs.declared.status.Status.TheVariants.{Done}
 use Rattle.exact_predicates.specs.declared.diamond.Diamond.{Diamond}
 use Rattle.exact_predicates.specs.declared.edge.Edge.{Edge}
 use Rattle.exact_predicates.specs.declared.point.Point.{Point}
 use Rattle.exact_predicates.specs.declared.tri.Tri.{Tri}
 use Rattle.exact_predicates.specs.Candidates.{AreCandidates, AreTrianglesOver, EdgePrecedes, IsCandidate}
 use Rattle.exact_predicates.specs.Hull.{IsHull}
-use Rattle.exact_predicates.specs.Merging.{IsMadeFrom, firsts}
-use Rattle.exact_predicates.specs.Plane.{IsInRange, Precedes}
+use Rattle.exact_predicates.specs.Plane.{IsInRange}
 use Rattle.exact_predicates.specs.PointSet.{IsPointSet}
-use Rattle.exact_predicates.proofs.Ascending.{AreCandidates-only, AreTrianglesOver-only, ascending-only}
+use Rattle.exact_predicates.proofs.Ascending.{AreCandidates-only, AreTrianglesOver-only}
 use Rattle.exact_predicates.proofs.OneHull.{IsHull-only}
-use Rattle.exact_predicates.proofs.Order.{Precedes-not}
 use Rattle.lmt_network.specs.Flags.{live_edges, live_numbers}
 use Rattle.lmt_network.specs.Live.{IsHullEdge, IsLive}
 use Rattle.lmt_network.specs.Network.{NetworkParts, IsNetwork, edge_at}
 use Rattle.lmt_network.specs.PriceTables.{table_prices}
-use Rattle.lmt_network.specs.Prices.{Priced, bound, is_on_hull}
+use Rattle.lmt_network.specs.Prices.{is_on_hull}
 use Rattle.lmt_network.specs.Skeleton.{AreSkeleton}
 use Rattle.lmt_network.proofs.Entries.{is_on_hull_decides}
 use Rattle.lmt_network.proofs.Filters.{filter-from}
@@ -33,17 +28,10 @@ use Rattle.lmt_network.proofs.Skeletons.{one_law}
 use Rattle.price_ascent.specs.Ascent.{IsAscent}
 use Rattle.price_ascent.proofs.OneAscent.{one_ascent}
 use Rattle.cert_text.specs.declared.report.Report.{Report}
-use Rattle.cert_text.specs.Texts.{report_text}
 use Rattle.cert_text.specs.Within.{IsPointRow}
 use Rattle.dual_checker.specs.Elimination.{IsElimination}
 use Rattle.dual_checker.specs.GoodReport.{IsGoodReport, anchored_of, is_off_hull, live_edges_of, prices_of}
-use Rattle.tsplib_points.specs.declared.file.File.{File}
-use Rattle.tsplib_points.specs.Files.{IsFileOf, nodes_of}
-use Rattle.tsplib_points.specs.Refusals.{scaled}
-use Rattle.mwt_tool.specs.declared.solver.Settings.{Settings}
-use Rattle.mwt_tool.specs.declared.solving.Form.TheVariants.{Whole}
-use Rattle.mwt_tool.specs.ReportOf.{HasAscentPrices, IsReportOf}
-use Rattle.mwt_tool.specs.Solves.{ReportsAs, Solves, solved, accepted, refused as file_refused, dense_edges as has_dense_edges, dense_triangles as has_dense_triangles}
+use Rattle.mwt_tool.specs.ReportOf.{HasAscentPrices}
 
 -- the points of a good report are those of a problem
 point_set : (r : Report) → IsGoodReport r → IsPointSet r.points

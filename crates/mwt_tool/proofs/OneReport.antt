@@ -38,7 +38,7 @@ use Rattle.mwt_tool.specs.declared.solver.Settings.{Settings}
 use Rattle.mwt_tool.specs.declared.solving.Form.TheVariants.{Whole}
 use Rattle.mwt_tool.specs.OneFile.{AreAlike, OneFileAlike, OneInputAlike, ShareEdges, SharePrices}
 use Rattle.mwt_tool.specs.ReportOf.{HasAscentPrices, HasFaceOptimum, IsReportOf}
-use Rattle.mwt_tool.specs.Solves.{ReportsAs, Solves, solved, accepted, refused as file_refused, dense_edges as has_dense_edges, dense_triangles as has_dense_triangles}
+use Rattle.mwt_tool.specs.Solves.{AnswersFile, Solves, tells, accepted, refused as file_refused, dense_edges as has_dense_edges, dense_triangles as has_dense_triangles}
 use Rattle.mwt_tool.proofs.OneAscent.{ascent_prices, candidates, hull, live, skeleton}
 use Rattle.mwt_tool.proofs.SameKinds.{same_kind, same_method}
 
@@ -217,10 +217,10 @@ record IsTextFor (settings : Settings) (input text : List ℕ) : Type 0 where
   report_is : IsReportOf file settings report
   text_is : text ≡ report_text report
 
-in_file : (settings : Settings) (input text : List ℕ) (file : File) → IsFileOf input file → ReportsAs Whole file settings Done text → IsTextFor settings input text
+in_file : (settings : Settings) (input text : List ℕ) (file : File) → IsFileOf input file → AnswersFile Whole file settings Done text → IsTextFor settings input text
 in_file settings input text file of (has_dense_edges many says) = absurd (cc says.0)
 in_file settings input text file of (has_dense_triangles many says) = absurd (cc says.0)
-in_file settings input text file of (solved r within is done_is same) =
+in_file settings input text file of (tells within done_is (r, is, same)) =
     record { file = file; report = r; file_is = of; report_is = is; text_is = same }
 
 in_input : (settings : Settings) (input text : List ℕ) → Solves settings input Done text → IsTextFor settings input text

@@ -1,5 +1,5 @@
 -- From the steps of `solve` to its report.
-use Rattle.std.proofs.Common.{◌≡◌, ◌⊎◌, ℕ, ◌*◌, ◌^◌, ◌<◌, ◌≤◌, ◌==◌, Bool, List, [], length, cond, filter, All, AllPairs, pos, ◌-ℤ◌, ◌≤ℤ◌, arith, ap, sym, ◌∙◌, subst, inr}
+use Rattle.std.proofs.Common.{◌≡◌, ◌⊎◌, ℕ, ◌*◌, ◌^◌, ◌<◌, ◌≤◌, ◌==◌, Bool, List, [], length, cond, filter, All, pos, ◌-ℤ◌, ◌≤ℤ◌, arith, ap, sym, ◌∙◌, subst, inr}
 use Rattle.std.specs.Prelude.{◌↔◌}
 use Rattle.std.proofs.lemmas.Int.{ints}
 use Rattle.std.proofs.lemmas.List.Elements.{All-contains, All-weaker}

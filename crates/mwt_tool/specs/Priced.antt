@@ -1,5 +1,5 @@
 -- The live edges of a report with their prices, and what stands on them.
-use Rattle.std.specs.Prelude.{◌≡◌, ◌↔◌, ℕ, Bool, List, All, Contains}
+use Rattle.std.specs.Prelude.{◌≡◌, ◌↔◌, Bool, List, All, Contains}
 use Rattle.exact_predicates.specs.declared.edge.Edge.{Edge}
 use Rattle.lmt_network.specs.Flags.{live_edges}
 use Rattle.lmt_network.specs.Live.{IsHullEdge}

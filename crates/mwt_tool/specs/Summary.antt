@@ -1,9 +1,7 @@
 -- The summary of a report, in eight lines.
 use Rattle.std.specs.Prelude.{ℕ, List, [], ◌∷◌, ◌++◌, length, codes}
 use Rattle.cert_text.specs.declared.report.Report.{Report}
-use Rattle.cert_text.specs.Texts.{count_line, length_lines, lines_text, report_text}
-use Rattle.mwt_tool.specs.declared.solving.Form.{Form}
-use Rattle.mwt_tool.specs.declared.solving.Form.TheVariants.{Whole, Summary}
+use Rattle.cert_text.specs.Texts.{count_line, length_lines, lines_text}
 
 abbrev pub count_lines : Report → List (List ℕ)
 count_lines r =
@@ -20,8 +18,3 @@ summary_lines r = count_lines r ++ length_lines r
 
 abbrev pub summary_text : Report → List ℕ
 summary_text r = lines_text (summary_lines r)
-
--- a report as it is written
-abbrev pub written : Form → Report → List ℕ
-written Whole r = report_text r
-written Summary r = summary_text r

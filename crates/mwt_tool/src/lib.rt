@@ -5,7 +5,9 @@
 mod answer;
 mod checking;
 mod command;
+mod explainer;
 mod generator;
+mod kills;
 mod laws;
 mod options;
 mod price_lines;

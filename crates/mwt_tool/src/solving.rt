@@ -1,33 +1,34 @@
-// The modes `solve` and `trial`: what there is to say of a point file.
-ghost use Rattle.std.specs.Prelude.{◌≡◌, ◌≤◌, IfOk};
+// The modes `solve`, `trial` and `explain`: what there is to say of a point file.
+ghost use Rattle.std.specs.Prelude.{◌≤◌, IfOk, OnOk, IsErrOf};
 ghost use Rattle.mwt_base.specs.Limits.{most_unit};
-ghost use Rattle.cert_text.specs.Within.{IsWithin};
+ghost use Rattle.dual_checker.specs.Elimination.{HasTooManyEdges, HasTooManyTriangles, IsWithinLimits};
 ghost use Rattle.mwt_tool.specs.Said.{IsAnswer};
-ghost use Rattle.mwt_tool.specs.Solves.{ReportsAs, SolvesAs};
-ghost use Rattle.mwt_tool.specs.Summary.{written};
+ghost use Rattle.mwt_tool.specs.Solves.{AnswersFile, AnswersInput, Tells};
 ghost use Rattle.mwt_tool.specs.Texts.{bytes_of};
 ghost use Rattle.mwt_tool.specs.Words.{CanSolve};
 
 use crate::answer::{Answer, Text, refusal_answer};
+use crate::explainer::explain;
 use crate::refusal::Refusal;
 use crate::solver::{Settings, solve};
 use crate::summary::summary;
-use cert_text::{Report, write_report};
+use cert_text::write_report;
 use dual_checker::CheckStop;
 use mwt_base::{Bytes, Gate, NoMemory, Status};
 use std::alloc::Global;
 use std::thread::Threads;
 use tsplib_points::{File, FileStop, read_points};
 
-/// How a report is written.
+/// What is said of a file: its report, the summary of that, or its killed edges.
 #[derive(Clone, Copy, Debug, PartialEq, Eq)]
 pub enum Form {
     Whole,
     Summary,
+    Kills,
 }
 
-/// The answer to an input, with the report of what it holds in this form.
-pub fn solve_answer<R: Threads + Sync, G: Gate>(
+/// The answer to an input, with what there is to say of what it holds in this form.
+pub fn input_answer<R: Threads + Sync, G: Gate>(
     rt: &R,
     alloc: Global,
     form: Form,
@@ -36,18 +37,18 @@ pub fn solve_answer<R: Threads + Sync, G: Gate>(
     gate: &G,
 ) -> Result<Answer, NoMemory>
     requires { CanSolve settings.now }
-    ensures solves { IfOk result (λ a. SolvesAs form settings.now input.now a.status (bytes_of a.text)) }
+    ensures answers { IfOk result (λ a. AnswersInput form settings.now input.now a.status (bytes_of a.text)) }
     ensures ends { IfOk result (λ a. IsAnswer a.status) }
 {
     match read_points(alloc, input) {
-        Ok(file) => Ok(report_answer(rt, alloc, form, &file, settings, gate)?),
+        Ok(file) => Ok(file_answer(rt, alloc, form, &file, settings, gate)?),
         Err(FileStop::Refused(why)) => Ok(refusal_answer(alloc, Refusal::File(why))?),
         Err(FileStop::NoMemory) => Err(NoMemory),
     }
 }
 
 // The answer to what a file holds.
-fn report_answer<R: Threads + Sync, G: Gate>(
+fn file_answer<R: Threads + Sync, G: Gate>(
     rt: &R,
     alloc: Global,
     form: Form,
@@ -57,30 +58,50 @@ fn report_answer<R: Threads + Sync, G: Gate>(
 ) -> Result<Answer, NoMemory>
     requires unit { file.now.unit ≤ most_unit }
     requires settings { CanSolve settings.now }
-    ensures reports { IfOk result (λ a. ReportsAs form file.now settings.now a.status (bytes_of a.text)) }
+    ensures answers { IfOk result (λ a. AnswersFile form file.now settings.now a.status (bytes_of a.text)) }
     ensures ends { IfOk result (λ a. IsAnswer a.status) }
 {
-    match solve(rt, alloc, file, settings, gate) {
-        Ok(report) => {
-            let text = written(alloc, form, &report)?;
-            Ok(Answer {
-                status: Status::Done,
-                text,
-            })
-        }
+    match text_of(rt, alloc, form, file, settings, gate) {
+        Ok(text) => Ok(Answer {
+            status: Status::Done,
+            text,
+        }),
         Err(CheckStop::DenseEdges) => Ok(refusal_answer(alloc, Refusal::DenseEdges)?),
         Err(CheckStop::DenseTriangles) => Ok(refusal_answer(alloc, Refusal::DenseTriangles)?),
         Err(CheckStop::NoMemory) => Err(NoMemory),
     }
 }
 
-// The report in this form.
-fn written(alloc: Global, form: Form, report: &Report) -> Result<Text, NoMemory>
-    requires { IsWithin report.now }
-    ensures { IfOk result (λ text. bytes_of text ≡ written form report.now) }
+// The text that says it in this form.
+fn text_of<R: Threads + Sync, G: Gate>(
+    rt: &R,
+    alloc: Global,
+    form: Form,
+    file: &File,
+    settings: &Settings,
+    gate: &G,
+) -> Result<Text, CheckStop>
+    requires unit { file.now.unit ≤ most_unit }
+    requires settings { CanSolve settings.now }
+    ensures tells { IfOk result (λ text. Tells form file.now settings.now (bytes_of text)) }
+    ensures within { OnOk result (IsWithinLimits file.now.points.points settings.now.diamond) }
+    ensures dense_edges { IsErrOf result CheckStop.DenseEdges →
+        HasTooManyEdges file.now.points.points settings.now.diamond }
+    ensures dense_triangles { IsErrOf result CheckStop.DenseTriangles →
+        HasTooManyTriangles file.now.points.points settings.now.diamond }
 {
     match form {
-        Form::Whole => Ok(Text::Whole(write_report(alloc, report)?)),
-        Form::Summary => Ok(Text::Lines(summary(alloc, report)?)),
+        Form::Whole => {
+            let report = solve(rt, alloc, file, settings, gate)?;
+            Ok(Text::Whole(write_report(alloc, &report)?))
+        }
+        Form::Summary => {
+            let report = solve(rt, alloc, file, settings, gate)?;
+            Ok(Text::Lines(summary(alloc, &report)?))
+        }
+        Form::Kills => {
+            let text = explain(rt, alloc, &file.points, settings, gate)?;
+            Ok(Text::Lines(text))
+        }
     }
 }

@@ -35,8 +35,8 @@ fn write_counts(text: &mut Vec<u8>, report: &Report) -> Result<(), AllocError>
     Ok(())
 }
 
-// A line with a word and a number.
-fn write_count(text: &mut Vec<u8>, word: &str, n: u32) -> Result<(), AllocError>
+/// A line with a word and a number.
+pub fn write_count(text: &mut Vec<u8>, word: &str, n: u32) -> Result<(), AllocError>
     ensures { OnOk result (Grows text.old.items text.new.items (count_line word.now n ∷ [])) }
 {
     text.extend_from_slice(word.as_bytes())?;

@@ -48,9 +48,9 @@ pub fn run<S: Source, K: Sink, G: Gate, R: Threads + Sync>(
         ¬ Rose (K.faults sink.old) (K.faults sink.new) →
         IsAnswer result ⊎ (result ≡ Status.NoMemory) }
 
-    // An input that the mode accepts is answered with Done: with `solve`, an accepted file with its report; with
-    // `check`, the text of a good report with `valid`; with `make`, any, and with `trial`, any where the made file
-    // is one that `solve` accepts, for these two read nothing.
+    // An input that the mode accepts is answered with Done: with `solve`, an accepted file with its report, and
+    // with `explain` with its killed edges; with `check`, the text of a good report with `valid`; with `make`, any,
+    // and with `trial`, any where the made file is one that `solve` accepts, for these two read nothing.
     ensures complete { IsAcceptedInput (texts words.now) (S.left source.old) →
         ¬ Rose (S.faults source.old) (S.faults source.new) → ¬ Rose (K.faults sink.old) (K.faults sink.new) →
         (result ≡ Status.Done) ⊎ (result ≡ Status.NoMemory) }

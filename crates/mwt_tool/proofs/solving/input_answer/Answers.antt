@@ -4,13 +4,13 @@ use Rattle.mwt_tool.specs.declared.refusal.Refusal.TheVariants.{File}
 use Rattle.mwt_tool.specs.Refusal.{refusal_line}
 use Rattle.mwt_tool.specs.Texts.{bytes_of}
 use Rattle.mwt_tool.specs.Solves.{accepted, refused}
-use Rattle.mwt_tool.proofs.solving.solve_answer.Goals as goal
+use Rattle.mwt_tool.proofs.solving.input_answer.Goals as goal
 
-pub returns-in_ok-report_answer-in-Ok-clause-solves : goal.returns-in_ok-report_answer-in-Ok-clause-solves
-returns-in_ok-report_answer-in-Ok-clause-solves g c = accepted _ c.in-Ok.ensures.file c.in_ok-report_answer-in-Ok.ensures.reports
+pub returns-in_ok-file_answer-in-Ok-clause-answers : goal.returns-in_ok-file_answer-in-Ok-clause-answers
+returns-in_ok-file_answer-in-Ok-clause-answers g c = accepted _ c.in-Ok.ensures.file c.in_ok-file_answer-in-Ok.ensures.answers
 
-pub returns-in_ok-refusal_answer-in-Err-Refused-clause-solves : goal.returns-in_ok-refusal_answer-in-Err-Refused-clause-solves
-returns-in_ok-refusal_answer-in-Err-Refused-clause-solves g c =
+pub returns-in_ok-refusal_answer-in-Err-Refused-clause-answers : goal.returns-in_ok-refusal_answer-in-Err-Refused-clause-answers
+returns-in_ok-refusal_answer-in-Err-Refused-clause-answers g c =
     let answer = c.in_ok-refusal_answer-in-Err-Refused in
     let line : FileRefusal → Type 0 = λ why. bytes_of answer.field-0.text ≡ refusal_line (File why) in
     refused c.in-Err-Refused.why (c.in-Err-Refused.ensures.refused c.in-Err-Refused.why c.in-Err-Refused.field-0-is)
