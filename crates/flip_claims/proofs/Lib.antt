@@ -5,11 +5,14 @@ pub mod Gathering
 pub mod Joining
 pub mod Lowers
 pub mod Members
+pub mod Nearing
 pub mod Picking
 pub mod Remembering
+pub mod Repeating
 pub mod Seats
 pub mod Sitters
 pub mod Stripes
 pub mod Totals
 pub mod Triangles
+pub mod Untouched
 pub mod Winning

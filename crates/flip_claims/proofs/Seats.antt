@@ -1,15 +1,14 @@
 -- Opening the claims, splitting a seat and joining two keep the rule.
-use Rattle.std.proofs.Common.{◌≡◌, ◌≢◌, ℕ, ◌+◌, ◌<◌, ◌≤◌, List, [], ◌∷◌, length, get_or, set, sym, refl, ◌∙◌, subst, inl, inr, ⊎_elim, arith, length-set, length-append}
+use Rattle.std.proofs.Common.{◌≡◌, ◌≢◌, ℕ, ◌<◌, List, [], ◌∷◌, get_or, set, sym, refl, ◌∙◌, subst, inl, inr, ⊎_elim, arith, length-set, length-append}
 use Rattle.std.proofs.lemmas.List.Elements.{Contains-append_cases}
-use mathlib.Core.Option.{some, some-ne-none}
+use mathlib.Core.Option.{some}
 use lib.ListN.{get_elem?}
-use Rattle.atomic_table.specs.Table.{Joins, Splits, opening}
+use Rattle.atomic_table.specs.Table.{Joins, Splits}
 use Rattle.atomic_table.proofs.Lists.{at_set, at_snoc, set_else}
 use Rattle.flip_claims.specs.declared.view.Known.{Known}
 use Rattle.flip_claims.specs.declared.view.About.{About}
 use Rattle.flip_claims.specs.Plays.{joined_view, left_view, right_view, spent_view}
-use Rattle.flip_claims.specs.Rule.{ClaimsHold, ViewHolds, claim_on, first_view, shares_of, splits_of}
-use Rattle.flip_claims.specs.Words.{unclaimed}
+use Rattle.flip_claims.specs.Rule.{ClaimsHold, ViewHolds, claim_on, shares_of, splits_of}
 use Rattle.flip_claims.proofs.Claiming.{claimed_joined, claimed_longer, claimed_set}
 use Rattle.flip_claims.proofs.Members.{Contains-nil}
 use Rattle.flip_claims.proofs.Totals.{total_last, total_set}

@@ -1,6 +1,6 @@
 -- Claims for the slots that are dealt to one thread.
-use Rattle.std.proofs.Common.{◌≡◌, ℕ, ◌+◌, ◌<◌, ◌≤◌, ◌%◌, List, [], ◌∷◌, Contains, sym, ap, ◌∙◌, subst, ⊎_elim, arith}
-use Rattle.std.proofs.Math.Nat.{add-mod_right, mod-eq_of_lt}
+use Rattle.std.proofs.Common.{◌≡◌, ℕ, ◌+◌, ◌<◌, ◌≤◌, ◌%◌, List, ◌∷◌, Contains, sym, ap, ◌∙◌, subst, ⊎_elim}
+use Rattle.std.proofs.Math.Nat.{add-mod_right}
 use Rattle.std.proofs.lemmas.Bool.{cases_lt}
 use Rattle.atomic_table.proofs.Lists.{one_turn}
 use Rattle.flip_finish.specs.Mesh.{Parts}
@@ -12,7 +12,7 @@ use Rattle.flip_claims.specs.declared.view.Known.{Known}
 use Rattle.flip_claims.specs.Plays.{claimed_view}
 use Rattle.flip_claims.specs.Rounds.{AreClaimsFor, HasClaimedStripe}
 use Rattle.flip_claims.specs.Rule.{claim_on}
-use Rattle.flip_claims.proofs.Members.{Contains-cases, Contains-later, Contains-nil}
+use Rattle.flip_claims.proofs.Members.{Contains-cases, Contains-later}
 use Rattle.flip_claims.proofs.Triangles.{both_claimed, has_left, has_right}
 
 -- the places before this one were gone through

@@ -1,9 +1,9 @@
 -- The two triangles of a slot.
-use Rattle.std.proofs.Common.{◌≡◌, ◌⊎◌, ℕ, ◌∷◌, sym, ap, ◌∙◌, subst, inl, inr, ⊎_elim, Contains}
+use Rattle.std.proofs.Common.{◌≡◌, ◌⊎◌, ℕ, ◌∷◌, sym, ap, ◌∙◌, subst, inl, inr, ⊎_elim, Contains, None, Some}
 use Rattle.std.proofs.lemmas.Option.{same_Some}
 use Rattle.flip_finish.specs.declared.slot.Slot.{Slot}
 use Rattle.flip_finish.specs.Mesh.{Parts}
-use Rattle.flip_finish.specs.Winners.{HasPair, HasTriangle}
+use Rattle.flip_finish.specs.Winners.{HasPair, HasTriangle, LacksTriangle}
 use Rattle.flip_finish.proofs.Standing.{IsAt-only}
 use Rattle.flip_claims.specs.declared.view.Known.{Known}
 use Rattle.flip_claims.specs.Plays.{claimed_view}
@@ -33,3 +33,15 @@ both_claimed m s l r x y t d h k =
     (λ left. subst (λ (i : ℕ). Contains claims (claim_on i s)) left (Contains-later (claim_on r s) (claim_on l s) (claim_on l s ∷ d.claimed) (Contains-here (claim_on l s) d.claimed)))
     (λ right. subst (λ (i : ℕ). Contains claims (claim_on i s)) right (Contains-here (claim_on r s) (claim_on l s ∷ d.claimed)))
     (one_of_two m s l r t h k)
+
+-- and lacks none
+pub lacks_none : (m : Parts) (s l r : ℕ) → HasPair m s l r → ¬ LacksTriangle m s
+lacks_none m s l r h k =
+    let same = IsAt-only m.slots s h.it k.it h.it_at k.it_at in
+    ⊎_elim
+    (λ left. none_some l (sym left ∙ (ap (λ (it : Slot). it.left) (sym same) ∙ h.left)))
+    (λ right. none_some r (sym right ∙ (ap (λ (it : Slot). it.right) (sym same) ∙ h.right)))
+    k.lacks
+  where
+    none_some : (t : ℕ) → ¬ (None ≡ Some t)
+    none_some t e = absurd (cc e)

@@ -81,12 +81,12 @@ module _ (ps : List Point) (m : Parts) (slots words : List ℕ) (short : AreShor
         picked.all slot (short.all slot win.shortens) (winner_holds slot whole (omega arith) win);
   }
 
--- the slots that shorten, among all slots
-pub shortening_are : (ps : List Point) (m : Parts) (all found : List ℕ) → ((s : ℕ) → s < length m.slots → Contains all s) → ArePicked (Shortens ps m) all found → AreShortening ps m found
+-- the slots that shorten, picked of a list that has all that do
+pub shortening_are : (ps : List Point) (m : Parts) (all found : List ℕ) → ((s : ℕ) → Shortens ps m s → Contains all s) → ArePicked (Shortens ps m) all found → AreShortening ps m found
 shortening_are ps m all found every picked = record {
   ascending = picked.ascending;
   each = picked.each;
-  all = λ slot s. picked.all slot (every slot s.quad.left.slot_at.inside) s;
+  all = λ slot s. picked.all slot (every slot s) s;
 }
 
 -- where there is no winner, no slot shortens: the least one that does would be a winner
@@ -106,6 +106,14 @@ none_wins ps m winners are = (
       (λ (none : length winners ≤ 0). omega arith)
       (cases_lt 0 (length winners)),
 )
+
+-- where a slot shortens there is one
+pub some_wins : (ps : List Point) (m : Parts) (slots winners : List ℕ) → AreShortening ps m slots → AreWinners ps m winners → 0 < length slots → 0 < length winners
+some_wins ps m slots winners short are some =
+    ⊎_elim
+    (λ (won : 0 < length winners). won)
+    (λ (none : length winners ≤ 0). absurd ((none_wins ps m winners are).0 (omega arith) (get_or slots 0 0) (short.each 0 0 some)))
+    (cases_lt 0 (length winners))
 
 -- there are no more winners than slots
 pub few_winners : (ps : List Point) (m : Parts) (winners : List ℕ) → AreWinners ps m winners → length winners ≤ length m.slots

@@ -16,6 +16,14 @@ abbrev pub AreFlipped : List Point → Parts → List ℕ → Parts → Type 0
 AreFlipped ps old [] new = new ≡ old
 AreFlipped ps old (slot ∷ slots) new = (mid : Parts) × IsFlipped ps old mid slot × AreFlipped ps mid slots new
 
+-- p has a triangle that one of these slots had in the mesh before
+pub record IsTouched (old new : Parts) (slots : List ℕ) (p : ℕ) : Type 0 where
+  pub t : ℕ
+  pub w : ℕ
+  pub among : Contains slots w
+  pub had : HasTriangle old w t
+  pub has : HasTriangle new p t
+
 -- A round: the winners of the mesh were flipped, in ascending order.
 pub record IsRound (ps : List Point) (old : Parts) (winners : List ℕ) (new : Parts) : Type 0 where
   pub winners_are : AreWinners ps old winners
@@ -53,6 +61,17 @@ pub record AreLeast (m : Parts) (slots words : List ℕ) : Type 0 where
   pub most : (s t : ℕ) → Contains slots s → HasTriangle m s t → slice_index words t ≤ s
   pub among : (t : ℕ) → t < length m.tris
       → (slice_index words t ≡ unclaimed) ⊎ (Contains slots (slice_index words t) × HasTriangle m (slice_index words t) t)
+
+-- near has each of the slots, and each slot with one of the triangles
+pub record AreAround (m : Parts) (slots triangles near : List ℕ) : Type 0 where
+  pub in_slots : All (λ p. p < length m.slots) near
+  pub old : (p : ℕ) → Contains slots p → Contains near p
+  pub sides : (p t : ℕ) → Contains triangles t → HasTriangle m p t → Contains near p
+
+-- and ascends
+pub record AreNear (m : Parts) (slots triangles near : List ℕ) : Type 0 where
+  pub ascending : AllPairs (λ p q. p < q) near
+  pub around : AreAround m slots triangles near
 
 -- the slot has two triangles
 abbrev pub HasTwo : Parts → ℕ → Type 0

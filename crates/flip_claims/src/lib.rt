@@ -8,6 +8,7 @@ mod answer;
 mod calls;
 mod close;
 mod handles;
+mod near;
 mod open;
 mod plays;
 mod rounds;

@@ -5,8 +5,9 @@ ghost use Rattle.exact_predicates.specs.Flip.{IsFlipMinimal};
 ghost use Rattle.flip_finish.specs.Flipping.{IsShortened, Shortens, slot_d2};
 ghost use Rattle.flip_finish.specs.Mesh.{IsMeshOf, IsWhole, IsWithin};
 ghost use Rattle.flip_finish.specs.Winners.{AreWinners};
-ghost use Rattle.flip_claims.specs.Rounds.{AreRounds, IsRound};
+ghost use Rattle.flip_claims.specs.Rounds.{AreRounds, AreShortening, IsRound};
 
+use crate::near::{around, triangles_of};
 use crate::team::claimed_words;
 use crate::winners::{all_slots, flip_all, holding, shortening};
 use exact_predicates::Points;
@@ -21,20 +22,30 @@ fn winners_of<R: Threads + Sync, G: Gate>(
     alloc: Global,
     points: &Points,
     mesh: &Mesh,
+    slots: &[u32],
     workers: u32,
     gate: &G,
 ) -> Result<Vec<u32>, NoMemory>
     requires some { 0 < workers }
     requires few { workers ≤ most_workers }
-    requires within { All (IsWithin points.now.points) mesh.now.tris }
-    ensures winners { IfOk result (λ winners. AreWinners points.now.points mesh.now winners.items) }
-    ensures few { IfOk result (λ winners. length winners.items < 2 ^ 32) }
-    ensures whole { IsWhole mesh.now }
+    requires shortening { AreShortening points.now.points mesh.now slots.now }
+    requires mesh { IsWhole mesh.now × (length mesh.now.slots < 2 ^ 32) }
+    ensures { IfOk result (λ winners. AreWinners points.now.points mesh.now winners.items) }
 {
-    let slots = shortening(alloc, points, mesh, &all_slots(alloc, mesh)?)?;
-    let words = claimed_words(rt, alloc, points, mesh, &slots, workers, gate)?;
-    let winners = holding(alloc, mesh, &words, &slots)?;
+    let words = claimed_words(rt, alloc, points, mesh, slots, workers, gate)?;
+    let winners = holding(alloc, mesh, &words, slots)?;
     Ok(winners)
+}
+
+// All slots that shorten, ascending.
+fn all_shortening(alloc: Global, points: &Points, mesh: &Mesh) -> Result<Vec<u32>, NoMemory>
+    requires { All (IsWithin points.now.points) mesh.now.tris }
+    ensures shortening { IfOk result (λ slots. AreShortening points.now.points mesh.now slots.items) }
+    ensures mesh { IsWhole mesh.now × (length mesh.now.slots < 2 ^ 32) }
+{
+    let all = all_slots(alloc, mesh)?;
+    let slots = shortening(alloc, points, mesh, &all)?;
+    Ok(slots)
 }
 
 /// One round of flips. So many threads, from 1 to 64, claim the triangles of the slots that shorten, which are
@@ -62,9 +73,40 @@ pub fn round<R: Threads + Sync, G: Gate>(
         ≤ sum_by (slot_d2 points.now.points) mesh.old.slots) }
     ensures same { OnErr result (mesh.new ≡ mesh.old) }
 {
-    let winners = winners_of(rt, alloc, points, mesh, workers, gate)?;
+    let slots = all_shortening(alloc, points, mesh)?;
+    let winners = winners_of(rt, alloc, points, mesh, &slots, workers, gate)?;
     flip_all(points, mesh, &winners);
     Ok(winners.len() as u32)
+}
+
+// One round over the slots that shorten, and those that shorten after it, which are looked for near the flips.
+fn next_round<R: Threads + Sync, G: Gate>(
+    rt: &R,
+    alloc: Global,
+    points: &Points,
+    mesh: &mut Mesh,
+    slots: &[u32],
+    workers: u32,
+    gate: &G,
+) -> Result<Vec<u32>, NoMemory>
+    requires some { 0 < workers }
+    requires few { workers ≤ most_workers }
+    requires within { All (IsWithin points.now.points) mesh.old.tris }
+    requires shortening { AreShortening points.now.points mesh.old slots.now }
+    requires mesh { IsWhole mesh.old × (length mesh.old.slots < 2 ^ 32) }
+    ensures round { OnOk result ((winners : List ℕ) × IsRound points.now.points mesh.old winners mesh.new) }
+    ensures shortening { IfOk result (λ near. AreShortening points.now.points mesh.new near.items) }
+    ensures shortened { IsShortened points.now.points mesh.old mesh.new }
+    ensures whole { IsWhole mesh.new }
+    ensures falls { OnOk result (0 < length slots.now →
+        sum_by (slot_d2 points.now.points) mesh.new.slots < sum_by (slot_d2 points.now.points) mesh.old.slots) }
+{
+    let winners = winners_of(rt, alloc, points, mesh, slots, workers, gate)?;
+    let triangles = triangles_of(alloc, mesh, &winners)?;
+    flip_all(points, mesh, &winners);
+    let near = around(alloc, mesh, slots, &triangles)?;
+    let slots = shortening(alloc, points, mesh, &near)?;
+    Ok(slots)
 }
 
 /// Shortens a triangulation by rounds of flips until no flip makes it shorter. `NoMemory` is the only error;
@@ -86,6 +128,9 @@ pub fn shorten_claimed<R: Threads + Sync, G: Gate>(
     ensures minimal { OnOk result ((hull : List ℕ) → IsMeshOf points.now.points hull mesh.new →
         IsFlipMinimal points.now.points hull mesh.new.tris) }
 {
-    while round(rt, alloc, points, mesh, workers, gate)? > 0 {}
+    let mut slots = all_shortening(alloc, points, mesh)?;
+    'rounds: while !slots.is_empty() {
+        slots = next_round(rt, alloc, points, mesh, &slots, workers, gate)?;
+    }
     Ok(())
 }

@@ -1,9 +1,9 @@
 // The slots that shorten, the winners among them, and their flips.
-ghost use Rattle.std.specs.Prelude.{◌≡◌, ◌↔◌, ℕ, ◌+◌, ◌^◌, ◌<◌, ◌≤◌, length, All, AllPairs, Contains, IfOk, IsTrue, sum_by};
+ghost use Rattle.std.specs.Prelude.{◌≡◌, ◌⊎◌, ◌↔◌, ℕ, ◌+◌, ◌^◌, ◌<◌, ◌≤◌, length, All, AllPairs, Contains, IfOk, IsTrue, sum_by};
 ghost use Rattle.flip_finish.specs.Flipping.{IsShortened, Shortens, slot_d2};
 ghost use Rattle.flip_finish.specs.Mesh.{IsWhole, IsWithin};
 ghost use Rattle.flip_finish.specs.Winners.{AreWinners};
-ghost use Rattle.flip_claims.specs.Rounds.{AreFlipped, ArePicked, HasTwo, HoldsBoth};
+ghost use Rattle.flip_claims.specs.Rounds.{AreFlipped, ArePicked, HasTwo, HoldsBoth, IsTouched};
 
 use crate::close::ClaimWords;
 use exact_predicates::Points;
@@ -86,6 +86,9 @@ pub fn flip_all(points: &Points, mesh: &mut Mesh, winners: &[u32])
     ensures flipped { AreFlipped points.now.points mesh.old winners.now mesh.new }
     ensures shortened { IsShortened points.now.points mesh.old mesh.new }
     ensures whole { IsWhole mesh.old → IsWhole mesh.new }
+    ensures count { length mesh.new.tris ≡ length mesh.old.tris }
+    ensures back { (p : ℕ) → Shortens points.now.points mesh.new p →
+        IsTouched mesh.old mesh.new winners.now p ⊎ Shortens points.now.points mesh.old p }
     ensures falls { sum_by (slot_d2 points.now.points) mesh.new.slots + length winners.now
         ≤ sum_by (slot_d2 points.now.points) mesh.old.slots }
 {

@@ -1,17 +1,19 @@
--- Which slots have two triangles.
-use Rattle.std.proofs.Common.{◌≡◌, ℕ, ◌⊎◌, ◌<◌, List, length, Some, None, arith, subst, ⊎_elim, inl, inr}
+-- Which slots have two triangles, and which have a triangle.
+use Rattle.std.proofs.Common.{◌≡◌, ℕ, zero, suc, ◌⊎◌, ◌↔◌, ◌<◌, ◌≤◌, List, [], ◌∷◌, length, get_or, Contains, Some, None, arith, refl, sym, ◌∙◌, subst, ⊎_elim, inl, inr}
+use Rattle.std.proofs.lemmas.Bool.{cases_lt}
 use Rattle.std.proofs.lemmas.List.{length-map}
 use Rattle.exact_predicates.specs.declared.point.Point.{Point}
 use Rattle.exact_predicates.specs.Hull.{IsHullPair}
 use Rattle.exact_predicates.proofs.Pairs.{side_of_member}
 use Rattle.flip_finish.specs.declared.face.Face.{Face}
 use Rattle.flip_finish.specs.declared.slot.Slot.{Slot}
-use Rattle.flip_finish.specs.Face.{Fits}
+use Rattle.flip_finish.specs.Face.{Fits, HasSideAt, IsSideAt}
 use Rattle.flip_finish.specs.Mesh.{HasLeft, IsMeshOf}
 use Rattle.flip_finish.specs.Places.{IsAt}
-use Rattle.flip_finish.specs.Winners.{IsOnHull}
+use Rattle.flip_finish.specs.Winners.{HasTriangle, IsOnHull}
 use Rattle.flip_finish.proofs.Quads.{parts}
 use Rattle.flip_finish.proofs.Seeing.{HasLeft-down, HasLeft-up, face_in}
+use Rattle.flip_finish.proofs.Slots.{left_down, left_up}
 use Rattle.flip_finish.proofs.Standing.{IsAt-only}
 use Rattle.flip_finish.proofs.Wholes.{IsWhole-fits}
 
@@ -44,3 +46,40 @@ module _ (faces : List Face) (slots : List Slot) (slot : ℕ) (it : Slot) (fits 
 
   pub right_in : (u : ℕ) → it.right ≡ Some u → u < length (parts faces slots).tris
   right_in u right = omega (arith, length-map faces (λ f. f.tri), face_in faces slots slot it.edge.b it.edge.a u fits (HasLeft-down slots slot u it here right))
+
+-- a triangle on a side of a slot's edge
+has_from_left : (faces : List Face) (slots : List Slot) (p x y t : ℕ) → HasLeft slots p x y t → HasTriangle (parts faces slots) p t
+has_from_left faces slots p x y t h =
+    ⊎_elim
+    (λ (up : x < y). record { it = h.slot; it_at = h.slot_at; has = inl (sym (left_up h.slot x y up) ∙ h.left) })
+    (λ (down : y ≤ x). record { it = h.slot; it_at = h.slot_at; has = inr (sym (left_down h.slot x y down) ∙ h.left) })
+    (cases_lt x y)
+
+-- the slots that a face has for its sides are those that have it
+pub sided : (faces : List Face) (slots : List Slot) (t p : ℕ) (f : Face) → Fits faces slots → IsAt faces t f
+    → Contains (f.ab ∷ f.bc ∷ f.ca ∷ []) p ↔ HasTriangle (parts faces slots) p t
+sided faces slots t p f fits at_t = (
+  (λ (k, k_in, at_k). from k k_in at_k),
+  λ h. ⊎_elim
+      (λ left. side_in (fits.to_face p h.it.edge.a h.it.edge.b t (HasLeft-up slots p t h.it h.it_at left)))
+      (λ right. side_in (fits.to_face p h.it.edge.b h.it.edge.a t (HasLeft-down slots p t h.it h.it_at right)))
+      h.has,
+)
+  where
+    side_of : (x y w q : ℕ) → HasSideAt f x y w q → q ≡ p → HasTriangle (parts faces slots) p t
+    side_of x y w q side is = subst (λ (i : ℕ). HasTriangle (parts faces slots) i t) is (has_from_left faces slots q x y t (fits.to_slot q x y t (record { face = f; w = w; face_at = at_t; side = side })))
+
+    from : (k : ℕ) → k < 3 → get_or (f.ab ∷ f.bc ∷ f.ca ∷ []) k p ≡ p → HasTriangle (parts faces slots) p t
+    from zero l is = side_of f.tri.a f.tri.b f.tri.c f.ab (inl (refl, refl, refl, refl)) is
+    from (suc zero) l is = side_of f.tri.b f.tri.c f.tri.a f.bc (inr (inl (refl, refl, refl, refl))) is
+    from (suc (suc zero)) l is = side_of f.tri.c f.tri.a f.tri.b f.ca (inr (inr (refl, refl, refl, refl))) is
+    from (suc (suc (suc k))) l is = absurd (omega arith)
+
+    side_in : {x y : ℕ} → IsSideAt faces t x y p → Contains (f.ab ∷ f.bc ∷ f.ca ∷ []) p
+    side_in {x} {y} h =
+        let same = IsAt-only faces t h.face f h.face_at at_t in
+        let side = subst (λ (g : Face). HasSideAt g x y h.w p) same h.side in
+        ⊎_elim
+        (λ k. (0, omega arith, k.3))
+        (λ d. ⊎_elim (λ k. (1, omega arith, k.3)) (λ k. (2, omega arith, k.3)) d)
+        side

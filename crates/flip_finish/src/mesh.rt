@@ -1,5 +1,5 @@
 // The mesh, and the flip of one edge.
-ghost use Rattle.std.specs.Prelude.{◌≡◌, ◌↔◌, ◌<◌, ℕ, List, All, AllPairs, IsTrue, IsNone, IfOk, IfSome, MatchOption, IsPermutation, IsSorted, length, slice_get, Some, sum_by};
+ghost use Rattle.std.specs.Prelude.{◌≡◌, ◌↔◌, ◌<◌, ℕ, List, All, AllPairs, Contains, IsTrue, IsNone, IfOk, IfSome, MatchOption, IsPermutation, IsSorted, length, slice_get, Some, sum_by};
 ghost use Rattle.exact_predicates.specs.declared.point.Point.{Point};
 ghost use Rattle.exact_predicates.specs.Hull.{IsHull};
 ghost use Rattle.exact_predicates.specs.Triangulation.{IsTriangulation, tri_cmp};
@@ -36,7 +36,7 @@ impl Model for Mesh {
 impl Mesh {
     ghost use Rattle.flip_finish.specs.Flipping.{IsFlipped, IsLowered, IsShortened, Shortens, slot_d2};
     ghost use Rattle.flip_finish.specs.Mesh.{IsMeshOf, IsUpTo, IsWhole, IsWithin, slot_edges};
-    ghost use Rattle.flip_finish.specs.Winners.{HasPair, IsOnHull, LacksTriangle};
+    ghost use Rattle.flip_finish.specs.Winners.{HasPair, HasTriangle, IsOnHull, LacksTriangle};
 
     /// The mesh of a triangulation. Its triangles are in the order of the list, its slots in ascending
     /// order of their edges. For n points it takes time n log n. `NoMemory` is the only error.
@@ -96,6 +96,15 @@ impl Mesh {
         let left = it.left?;
         let right = it.right?;
         Some((left, right))
+    }
+
+    /// The slots of the triangle's three sides.
+    pub fn sides(&self, t: u32) -> [u32; 3]
+        requires { t < length self.now.tris }
+        ensures { (slot : ℕ) → Contains result slot ↔ HasTriangle self.now slot t }
+    {
+        let face = self.faces[t as usize];
+        [face.ab, face.bc, face.ca]
     }
 
     /// Whether a flip of the slot's edge makes it strictly shorter: it has triangles on both sides,

@@ -6,7 +6,7 @@ ghost use Rattle.flip_claims.specs.Handles.{Belongs};
 ghost use Rattle.flip_finish.specs.Mesh.{IsWithin};
 
 use crate::helpers::{TWENTY, points_of, swept};
-use exact_predicates::{Points, Tri};
+use exact_predicates::Points;
 use flip_claims::{Claim, ClaimSeat, Claims, round, shorten_claimed};
 use flip_finish::Mesh;
 use mwt_base::{Gate, MeetGate, OpenGate};
@@ -20,9 +20,8 @@ const FAN: [(i64, i64); 5] = [(-20, -20), (-5, 3), (-1, 1), (1, -1), (3, -5)];
 // One slot shortens.
 const KITE: [(i64, i64); 4] = [(0, 0), (4, -5), (4, 5), (8, 0)];
 
-const fn tri(a: u32, b: u32, c: u32) -> Tri {
-    Tri { a, b, c }
-}
+// The corners of a triangle.
+type Corners = (u32, u32, u32);
 
 // The mesh of the first triangulation.
 fn swept_mesh(alloc: Global, points: &Points) -> Result<Mesh, Fail>
@@ -90,6 +89,23 @@ fn a_smaller_slot_wins_in_either_order(rt: HostRuntime) -> Result<(), Fail> {
     Ok(())
 }
 
+// How many edges a round flips.
+fn flipped<R: Threads + Sync, G: Gate>(
+    rt: &R,
+    alloc: Global,
+    points: &Points,
+    mesh: &mut Mesh,
+    workers: u32,
+    gate: &G,
+) -> Result<u32, Fail>
+    requires some { 0 < workers }
+    requires few { workers ≤ most_workers }
+    requires within { All (IsWithin points.now.points) mesh.old.tris }
+    ensures { All (IsWithin points.now.points) mesh.new.tris }
+{
+    round(rt, alloc, points, mesh, workers, gate).map_err(|_| Fail::from("no memory"))
+}
+
 // How many edges each of three rounds flips, and the triangles after that.
 fn three_rounds<R: Threads + Sync, G: Gate>(
     rt: &R,
@@ -97,45 +113,48 @@ fn three_rounds<R: Threads + Sync, G: Gate>(
     places: &[(i64, i64)],
     workers: u32,
     gate: &G,
-) -> Result<([u32; 3], Vec<Tri>), Fail>
+) -> Result<([u32; 3], Vec<Corners>), Fail>
     requires some { 0 < workers }
     requires few { workers ≤ most_workers }
 {
     let points = points_of(alloc, places)?;
     let mut mesh = swept_mesh(alloc, &points)?;
-    let Ok(first) = round(rt, alloc, &points, &mut mesh, workers, gate) else {
-        return Err(Fail::from("no memory"));
-    };
-    let Ok(second) = round(rt, alloc, &points, &mut mesh, workers, gate) else {
-        return Err(Fail::from("no memory"));
-    };
-    let Ok(third) = round(rt, alloc, &points, &mut mesh, workers, gate) else {
-        return Err(Fail::from("no memory"));
-    };
+    let first = flipped(rt, alloc, &points, &mut mesh, workers, gate)?;
+    let second = flipped(rt, alloc, &points, &mut mesh, workers, gate)?;
+    let third = flipped(rt, alloc, &points, &mut mesh, workers, gate)?;
     Ok(([first, second, third], tris_of(alloc, &mesh)?))
 }
 
-fn tris_of(alloc: Global, mesh: &Mesh) -> Result<Vec<Tri>, Fail> {
-    match mesh.tris(alloc) {
-        Ok(tris) => Ok(Vec::from_slice(alloc, tris.as_slice())?),
-        Err(_) => Err(Fail::from("no memory")),
+// The triangles, ascending.
+fn tris_of(alloc: Global, mesh: &Mesh) -> Result<Vec<Corners>, Fail> {
+    let Ok(tris) = mesh.tris(alloc) else {
+        return Err(Fail::from("no memory"));
+    };
+    let mut corners = Vec::new(alloc);
+    for tri in tris.as_slice() {
+        corners.push((tri.a, tri.b, tri.c))?;
     }
+    Ok(corners)
 }
 
 #[test]
 fn rounds_flip_the_winners(rt: HostRuntime) -> Result<(), Fail> {
     let alloc = rt.alloc();
-    for workers in [1, 2, 64] {
-        let (counts, tris) = three_rounds(&rt, alloc, &FAN, workers, &OpenGate)?;
-        assert_eq!(rt; counts, [1, 1, 0]);
+    let fans = [
+        three_rounds(&rt, alloc, &FAN, 1, &OpenGate)?,
+        three_rounds(&rt, alloc, &FAN, 2, &OpenGate)?,
+        three_rounds(&rt, alloc, &FAN, 64, &OpenGate)?,
+    ];
+    for (counts, tris) in &fans {
+        assert_eq!(rt; *counts, [1, 1, 0]);
         assert_eq!(rt;
             tris.as_slice(),
-            [tri(0, 4, 1), tri(1, 3, 2), tri(1, 4, 3)].as_slice()
+            [(0, 4, 1), (1, 3, 2), (1, 4, 3)].as_slice()
         );
-        let (counts, tris) = three_rounds(&rt, alloc, &KITE, workers, &OpenGate)?;
-        assert_eq!(rt; counts, [1, 0, 0]);
-        assert_eq!(rt; tris.as_slice(), [tri(0, 1, 3), tri(0, 3, 2)].as_slice());
     }
+    let (counts, tris) = three_rounds(&rt, alloc, &KITE, 2, &OpenGate)?;
+    assert_eq!(rt; counts, [1, 0, 0]);
+    assert_eq!(rt; tris.as_slice(), [(0, 1, 3), (0, 3, 2)].as_slice());
     Ok(())
 }
 
@@ -155,7 +174,7 @@ fn shortened_by<R: Threads + Sync>(
     alloc: Global,
     places: &[(i64, i64)],
     workers: u32,
-) -> Result<Vec<Tri>, Fail>
+) -> Result<Vec<Corners>, Fail>
     requires some { 0 < workers }
     requires few { workers ≤ most_workers }
 {
@@ -171,44 +190,49 @@ fn shortened_by<R: Threads + Sync>(
 fn rounds_leave_one_triangulation(rt: HostRuntime) -> Result<(), Fail> {
     let alloc = rt.alloc();
     let wanted = [
-        tri(0, 1, 2),
-        tri(0, 3, 1),
-        tri(0, 4, 3),
-        tri(1, 3, 5),
-        tri(1, 5, 2),
-        tri(2, 5, 10),
-        tri(2, 10, 14),
-        tri(3, 4, 6),
-        tri(3, 6, 9),
-        tri(3, 9, 12),
-        tri(3, 12, 5),
-        tri(4, 11, 6),
-        tri(4, 13, 11),
-        tri(5, 7, 8),
-        tri(5, 8, 10),
-        tri(5, 12, 7),
-        tri(6, 11, 9),
-        tri(7, 12, 8),
-        tri(8, 12, 15),
-        tri(8, 15, 10),
-        tri(9, 11, 13),
-        tri(9, 13, 16),
-        tri(9, 16, 17),
-        tri(9, 17, 12),
-        tri(10, 15, 14),
-        tri(12, 17, 15),
-        tri(13, 19, 16),
-        tri(14, 15, 19),
-        tri(15, 17, 19),
-        tri(16, 18, 17),
-        tri(16, 19, 18),
-        tri(17, 18, 19),
+        (0, 1, 2),
+        (0, 3, 1),
+        (0, 4, 3),
+        (1, 3, 5),
+        (1, 5, 2),
+        (2, 5, 10),
+        (2, 10, 14),
+        (3, 4, 6),
+        (3, 6, 9),
+        (3, 9, 12),
+        (3, 12, 5),
+        (4, 11, 6),
+        (4, 13, 11),
+        (5, 7, 8),
+        (5, 8, 10),
+        (5, 12, 7),
+        (6, 11, 9),
+        (7, 12, 8),
+        (8, 12, 15),
+        (8, 15, 10),
+        (9, 11, 13),
+        (9, 13, 16),
+        (9, 16, 17),
+        (9, 17, 12),
+        (10, 15, 14),
+        (12, 17, 15),
+        (13, 19, 16),
+        (14, 15, 19),
+        (15, 17, 19),
+        (16, 18, 17),
+        (16, 19, 18),
+        (17, 18, 19),
     ];
-    for workers in [1, 2, 8, 64] {
-        let tris = shortened_by(&rt, alloc, &TWENTY, workers)?;
+    let teams = [
+        shortened_by(&rt, alloc, &TWENTY, 1)?,
+        shortened_by(&rt, alloc, &TWENTY, 2)?,
+        shortened_by(&rt, alloc, &TWENTY, 8)?,
+        shortened_by(&rt, alloc, &TWENTY, 64)?,
+    ];
+    for tris in &teams {
         assert_eq!(rt; tris.as_slice(), wanted.as_slice());
-        let tris = shortened_by(&rt, alloc, &KITE, workers)?;
-        assert_eq!(rt; tris.as_slice(), [tri(0, 1, 3), tri(0, 3, 2)].as_slice());
     }
+    let tris = shortened_by(&rt, alloc, &KITE, 2)?;
+    assert_eq!(rt; tris.as_slice(), [(0, 1, 3), (0, 3, 2)].as_slice());
     Ok(())
 }

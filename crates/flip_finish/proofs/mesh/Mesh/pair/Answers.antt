@@ -1,6 +1,5 @@
 -- A slot has two triangles where its edge is inside the hull.
 use Rattle.std.proofs.Common.{refl, sym, inl, inr}
-use Rattle.flip_finish.specs.Places.{IsAt}
 use Rattle.flip_finish.proofs.Pairing.{left_in, off_hull, on_hull_left, on_hull_right, right_in}
 use Rattle.flip_finish.proofs.mesh.Mesh.pair.Goals as goal
 
