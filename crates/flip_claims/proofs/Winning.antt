@@ -1,5 +1,5 @@
 -- The slots that hold both of their triangles are the winners.
-use Rattle.std.proofs.Common.{◌≡◌, ◌↔◌, ℕ, zero, suc, ◌<◌, ◌≤◌, List, length, get_or, slice_index, Contains, sym, ap, ◌∙◌, subst, ⊎_elim, arith}
+use Rattle.std.proofs.Common.{AllPairs, ◌≡◌, ◌↔◌, ℕ, zero, suc, ◌<◌, ◌≤◌, List, length, get_or, slice_index, Contains, sym, ap, ◌∙◌, subst, ⊎_elim, arith}
 use Rattle.std.proofs.lemmas.Bool.{cases_lt}
 use Rattle.std.proofs.lemmas.List.Elements.{All-contains}
 use Rattle.exact_predicates.specs.declared.point.Point.{Point}
@@ -114,6 +114,11 @@ some_wins ps m slots winners short are some =
     (λ (won : 0 < length winners). won)
     (λ (none : length winners ≤ 0). absurd ((none_wins ps m winners are).0 (omega arith) (get_or slots 0 0) (short.each 0 0 some)))
     (cases_lt 0 (length winners))
+
+-- no two winners share a triangle
+pub winners_apart : (ps : List Point) (m : Parts) (winners : List ℕ) → AreWinners ps m winners → AllPairs (λ p q. (t : ℕ) → HasTriangle m p t → ¬ HasTriangle m q t) winners
+winners_apart ps m winners are i j d before low t p_has q_has =
+    (are.each j d low).least (get_or winners i d) t (are.ascending i j d before low) (are.each i d (omega arith)).shortens p_has q_has
 
 -- there are no more winners than slots
 pub few_winners : (ps : List Point) (m : Parts) (winners : List ℕ) → AreWinners ps m winners → length winners ≤ length m.slots

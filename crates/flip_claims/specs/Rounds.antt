@@ -24,9 +24,10 @@ pub record IsTouched (old new : Parts) (slots : List ℕ) (p : ℕ) : Type 0 whe
   pub had : HasTriangle old w t
   pub has : HasTriangle new p t
 
--- A round: the winners of the mesh were flipped, in ascending order.
+-- A round: the winners of the mesh, of which no two share a triangle, were flipped in ascending order.
 pub record IsRound (ps : List Point) (old : Parts) (winners : List ℕ) (new : Parts) : Type 0 where
   pub winners_are : AreWinners ps old winners
+  pub apart : AllPairs (λ p q. (t : ℕ) → HasTriangle old p t → ¬ HasTriangle old q t) winners
   pub flipped : AreFlipped ps old winners new
 
 -- rounds, one after the other

@@ -3,7 +3,7 @@ use Rattle.flip_finish.specs.Flipping.{Shortens}
 use Rattle.flip_finish.specs.Winners.{HasTriangle}
 use Rattle.flip_claims.specs.Rounds.{AreFlipped, AreNear, ArePicked, HasTwo, IsTouched}
 use Rattle.flip_claims.proofs.Nearing.{near_short}
-use Rattle.flip_claims.proofs.Winning.{has_two, some_wins}
+use Rattle.flip_claims.proofs.Winning.{has_two, some_wins, winners_apart}
 use Rattle.flip_claims.proofs.rounds.next_round.Goals as goal
 
 pub triangles_of-requires : goal.triangles_of-requires
@@ -14,6 +14,7 @@ returns-clause-round g c = (
   c.in_ok-winners.winners.items,
   record {
     winners_are = c.in_ok-winners.ensures;
+    apart = winners_apart c.args.points.now.points c.args.mesh.now c.in_ok-winners.winners.items c.in_ok-winners.ensures;
     flipped = subst (λ (l : List ℕ). AreFlipped c.args.points.now.points c.args.mesh.now l c.flip_all.new.mesh) c.deref-2.ensures.value c.flip_all.ensures.flipped;
   },
 )

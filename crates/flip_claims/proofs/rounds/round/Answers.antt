@@ -1,7 +1,7 @@
 use Rattle.std.proofs.Common.{◌≡◌, ◌↔◌, ℕ, List, length, sym, subst, arith}
 use Rattle.flip_finish.specs.Flipping.{Shortens}
 use Rattle.flip_claims.specs.Rounds.{AreFlipped}
-use Rattle.flip_claims.proofs.Winning.{few_winners, none_wins}
+use Rattle.flip_claims.proofs.Winning.{few_winners, none_wins, winners_apart}
 use Rattle.flip_claims.proofs.rounds.round.Goals as goal
 
 pub overflow_cast-result : goal.overflow_cast-result
@@ -18,6 +18,7 @@ returns-clause-winners g c = (
   (let count = c.len.ensures in let capacity = c.in_ok-winners.winners.ok.0 in omega arith),
   record {
     winners_are = c.in_ok-winners.ensures;
+    apart = winners_apart c.args.points.now.points c.args.mesh.now c.in_ok-winners.winners.items c.in_ok-winners.ensures;
     flipped = subst (λ (l : List ℕ). AreFlipped c.args.points.now.points c.args.mesh.now l c.flip_all.new.mesh) c.deref-2.ensures.value c.flip_all.ensures.flipped;
   },
 )
