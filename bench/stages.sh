@@ -1,5 +1,5 @@
 #!/bin/sh
-# Times the stages from points to live edges on the files that are given, or on the hard sets of bench/hard_sets.py: of
+# Times the stages from points to the skeleton on the files that are given, or on the hard sets of bench/hard_sets.py: of
 # each stage the least of seven times, in microseconds. The program, bench/stages/, is proved and built in a copy of the
 # repository, since the gate has no use for it; that takes up to an hour. With the first word `off` the diamond test is off.
 # Usage: bench/stages.sh [off] [FILE..]
@@ -16,7 +16,7 @@ mkdir -p "$made/src" "$made/proofs/settled"
 cp "$top/bench/stages/main.rt.txt" "$made/src/main.rt"
 cp "$top/bench/stages/settled.antt.txt" "$made/proofs/settled/Answers.antt"
 echo "stages: mwt_base exact_predicates hull_sweep point_grid diamond_edges empty_triangles lmt_network tsplib_points \
-edge_marks steal_workers" >>"$work/copy/crates.txt"
+edge_marks steal_workers skeleton_faces" >>"$work/copy/crates.txt"
 
 if [ $# -eq 0 ]; then
     mkdir "$work/sets"
