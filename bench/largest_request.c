@@ -1,5 +1,6 @@
-/* Stands before malloc and its kin in a program that is started with LD_PRELOAD. Writes into the file that LARGEST_FILE
-   names, when the program ends, the size in bytes of the greatest request for memory. For bench/requests.sh. */
+/* Stands before malloc and its kin, and before _exit, in a program that is started with LD_PRELOAD. Writes into the file
+   that LARGEST_FILE names, when the program ends, the size in bytes of the greatest request for memory. For
+   bench/requests.sh. */
 #define _GNU_SOURCE
 #include <dlfcn.h>
 #include <fcntl.h>
@@ -8,6 +9,7 @@
 #include <stdio.h>
 #include <stdlib.h>
 #include <string.h>
+#include <sys/syscall.h>
 #include <unistd.h>
 
 static atomic_size_t largest;
@@ -56,4 +58,11 @@ static void report(void) {
 
 __attribute__((constructor)) static void begin(void) {
     atexit(report);
+}
+
+/* The program may end without what stands in atexit. */
+void _exit(int status) {
+    report();
+    syscall(SYS_exit_group, status);
+    __builtin_unreachable();
 }
