@@ -1,0 +1,6 @@
+pub mod Apart
+pub mod Keeping
+pub mod Members
+pub mod Packed
+pub mod Seating
+pub mod Totals
