@@ -8,7 +8,7 @@ use Rattle.ticket_marks.specs.declared.view.Known.{Known}
 use Rattle.ticket_marks.specs.Rule.{ranked, edges_seen}
 use Rattle.ticket_marks.specs.Plays.{now_seen, looked_view}
 use Rattle.ticket_marks.specs.Told.{Asked, asked, looked_all, ask_made, MakesLoads, FoundLive}
-use Rattle.ticket_marks.proofs.Members.{seen_rank, rank_seen}
+use Rattle.ticket_marks.proofs.SeenRanks.{seen_rank, rank_seen}
 
 pub looked_append : (xs ys : List Asked) (d : Known) → looked_all (xs ++ ys) d ≡ looked_all ys (looked_all xs d)
 looked_append [] ys d = refl
