@@ -10,7 +10,7 @@ use Rattle.edge_marks.specs.declared.view.Known.{Known}
 use Rattle.edge_marks.specs.declared.answer.Found.{Found}
 use Rattle.edge_marks.specs.declared.answer.Found.TheVariants.{Supported, Unsupported}
 use Rattle.edge_marks.specs.Told.{Asked, looked_all, FoundLive, AskForSidesOf, AskForSides, HasLiveSides, HasKilledSide, IsLivePair, IsBrokenWith, FoundBy}
-use Rattle.edge_marks.proofs.Members.{any_more}
+use Rattle.mark_seats.proofs.Members.{any_more}
 use Rattle.edge_marks.proofs.Loads.{looked_on, seen_kept, live_front, live_back}
 
 -- each of the three sides that the network m gives is a side

@@ -7,7 +7,7 @@ use Rattle.edge_marks.specs.declared.view.Loaded.{Loaded}
 use Rattle.edge_marks.specs.declared.view.Pass.{Pass}
 use Rattle.edge_marks.specs.declared.view.Pass.TheVariants.{InPass}
 use Rattle.edge_marks.specs.declared.view.Known.{Known}
-use Rattle.edge_marks.specs.Words.{bit_in}
+use Rattle.mark_seats.specs.Bits.{bit_in}
 use Rattle.edge_marks.specs.Rule.{loaded}
 use Rattle.edge_marks.specs.Plays.{now_seen, now_loaded, looked_view}
 use Rattle.edge_marks.specs.Told.{Asked, asked, looked_all, ask_made, MakesLoads, FoundLive}

@@ -9,7 +9,8 @@ use Rattle.edge_marks.specs.declared.answer.Settle.TheVariants.{Quiet, Lone, Mov
 use Rattle.edge_marks.specs.declared.view.Made.{Made}
 use Rattle.edge_marks.specs.declared.view.Made.TheVariants.{Load}
 use Rattle.edge_marks.specs.declared.view.Known.{Known}
-use Rattle.edge_marks.specs.Words.{bit_in, begun_word, finished_word}
+use Rattle.mark_seats.specs.Bits.{bit_in}
+use Rattle.edge_marks.specs.Words.{begun_word, finished_word}
 use Rattle.edge_marks.specs.Plays.{looked_view, opened_view, compared_view, settled_view}
 
 -- What a seat knew it still knows, and the steps of the calls in between come after its steps.
