@@ -3,4 +3,5 @@ pub mod Keeping
 pub mod Members
 pub mod Packed
 pub mod Seating
+pub mod Supports
 pub mod Totals
