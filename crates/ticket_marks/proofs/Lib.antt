@@ -1,6 +1,5 @@
 pub mod Answering
 pub mod Closes
-pub mod Examines
 pub mod Kept
 pub mod Kills
 pub mod Loads
