@@ -12,11 +12,12 @@ use Rattle.edge_marks.specs.declared.view.Pass.TheVariants.{NoPass, InPass}
 use Rattle.edge_marks.specs.declared.view.Known.{Known}
 use Rattle.edge_marks.specs.Rule.{WasLive, WasKilled, HadSupport, IsJudged}
 use Rattle.edge_marks.specs.Plays.{has_begun_with, settled_view}
-use Rattle.edge_marks.specs.Told.{Asked, asked, looked_all, FoundLive, FoundKilled, IsLivePair, WasJudged, WereJudged, entered}
+use Rattle.mark_seats.specs.Supports.{Asked, asked, IsLivePair}
+use Rattle.edge_marks.specs.Told.{looked_all, FoundLive, FoundKilled, WasJudged, WereJudged, entered}
 use Rattle.edge_marks.proofs.Loads.{looked_on, pass_kept, word_loaded}
 
 abbrev LiveSupport : NetworkParts → List Asked → ℕ → Type 0
-LiveSupport n ls e = (l : ℕ) × (r : ℕ) × IsLivePair n e l r ls
+LiveSupport n ls e = (l : ℕ) × (r : ℕ) × IsLivePair n e l r (FoundLive ls)
 
 -- what more loads leave of a judgement
 pub judged_more : (n : NetworkParts) (xs ys : List Asked) (e : ℕ) → ((l : Asked) → Contains xs l → Contains ys l) → WasJudged n xs e → WasJudged n ys e

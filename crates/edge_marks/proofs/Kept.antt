@@ -1,5 +1,5 @@
 -- What a step that leaves the slots alone has to show.
-use Rattle.std.proofs.Common.{◌≡◌, ◌≢◌, ℕ, ◌+◌, ◌*◌, ◌/◌, ◌<◌, ◌⊎◌, ◌≤◌, List, length, get_or, set, Contains, sym, refl, ap, ◌∙◌, subst, inl, inr, ⊎_elim, arith, length-set, mul-le-mul_right}
+use Rattle.std.proofs.Common.{◌≡◌, ◌≢◌, ℕ, ◌+◌, ◌*◌, ◌/◌, ◌<◌, ◌⊎◌, ◌≤◌, List, length, get_or, set, Contains, sym, refl, ap, ◌∙◌, subst, inl, ⊎_elim, arith}
 use Rattle.std.proofs.lemmas.List.Quantifiers.{any-set}
 use mathlib.Core.Option.{some}
 use mathlib.Core.Logic.{dite}
@@ -13,34 +13,15 @@ use Rattle.lmt_network.specs.Numbers.{IsDead}
 use Rattle.edge_marks.specs.declared.view.Known.{Known}
 use Rattle.edge_marks.specs.declared.view.About.{About}
 use Rattle.edge_marks.specs.Words.{mark_of}
-use Rattle.edge_marks.specs.Rule.{begun, finished, one_if, ViewHolds, total, is_busy, tries, splits_of, MarksHold}
-use Rattle.edge_marks.proofs.Members.{any_after, distinct_length, item_at}
-use Rattle.edge_marks.proofs.Totals.{total_set, total_at, total_at_most}
+use Rattle.edge_marks.specs.Rule.{begun, finished, ViewHolds, is_busy, tries, notes_of, MarksHold}
+use Rattle.mark_seats.specs.Seats.{total}
+use Rattle.mark_seats.proofs.Members.{any_after, item_at}
+use Rattle.mark_seats.proofs.Seating.{seats_moved, tries_bounded}
+use Rattle.mark_seats.proofs.Totals.{total_set, total_at}
 
 module _ (k : About) where
   abbrev pub net : NetworkParts
   net = k.net.value
-
-  -- the view at j after a step of the seat id, and the one that it was before
-  record Was (views : List Known) (j : ℕ) (e : Known) : Type 0 where
-    pub from : Known
-    pub at : get_elem? views j ≡ some from
-    pub slot : e.slot ≡ from.slot
-    pub splits : e.splits ≡ from.splits
-    pub noted : e.noted ≡ from.noted
-
-  was : (views : List Known) (id : ℕ) (d w : Known) → get_elem? views id ≡ some d → w.slot ≡ d.slot → w.splits ≡ d.splits → w.noted ≡ d.noted
-      → (j : ℕ) (e : Known) → get_elem? (set views id w) j ≡ some e → Was views j e
-  was views id d w at a b c j e h = ⊎_elim
-      (λ (t : (j ≡ id) × (w ≡ e)). record {
-        from = d;
-        at = subst (λ (i : ℕ). get_elem? views i ≡ some d) (sym t.0) at;
-        slot = ap (λ (x : Known). x.slot) (sym t.1) ∙ a;
-        splits = ap (λ (x : Known). x.splits) (sym t.1) ∙ b;
-        noted = ap (λ (x : Known). x.noted) (sym t.1) ∙ c;
-      })
-      (λ (t : (j ≢ id) × (get_elem? views j ≡ some e)). record { from = e; at = t.1; slot = refl; splits = refl; noted = refl })
-      (at_set views id j w e h)
 
   -- What a step of the seat id shows, whose view becomes w, of the words ws after it.
   pub record Moves (s : State ℕ Known) (d w : Known) (ws : List ℕ) : Type 0 where
@@ -55,11 +36,10 @@ module _ (k : About) where
     pub kills : begun net ws + tries d ≡ total tries s.views + tries w
 
   pub moved : (s : State ℕ Known) → MarksHold k s → (id : ℕ) (d w : Known) → get_elem? s.views id ≡ some d → (ws : List ℕ) → Moves s d w ws
-      → w.slot ≡ d.slot → w.splits ≡ d.splits → w.noted ≡ d.noted
+      → notes_of w ≡ notes_of d
       → MarksHold k record { words = ws; homes = s.homes; views = set s.views id w }
-  moved s r id d w at ws m a b c = record {
+  moved s r id d w at ws m same = record {
     wide = m.wide ∙ r.wide;
-    deep = r.deep;
     few = r.few;
     safe = m.safe;
     spare = m.spare;
@@ -73,21 +53,14 @@ module _ (k : About) where
         (at_set s.views id j w e h);
     open_kills = let t = total_set is_busy s.views id d w at in let o = m.open_kills in omega arith;
     kills = let t = total_set tries s.views id d w at in let o = m.kills in omega arith;
-    seated = let t = total_set splits_of s.views id d w at in let l = length-set s.views id w in let h = r.seated in omega arith;
-    noted = λ j e h. let p = was s.views id d w at a b c j e h in let q = r.noted j p.from p.at in let q₀ = q.0 in let p₁ = p.slot in let p₂ = p.splits in let p₃ = ap one_if p.noted in
-        let first : e.slot + e.splits < k.seats = omega arith in (first, λ i lo hi. q.1 i (omega arith) (omega arith));
-    apart = λ i j x y n h₁ h₂. let p = was s.views id d w at a b c i x h₁ in let q = was s.views id d w at a b c j y h₂ in let p₁ = p.slot in let p₂ = p.splits in let q₁ = q.slot in let q₂ = q.splits in
-        ⊎_elim
-        (λ (t : p.from.slot + p.from.splits < q.from.slot). let g : x.slot + x.splits < y.slot = omega arith in inl g)
-        (λ (t : q.from.slot + q.from.splits < p.from.slot). let g : y.slot + y.splits < x.slot = omega arith in inr g)
-        (r.apart i j p.from q.from n p.at q.at);
+    seating = seats_moved notes_of k.seats s.homes s.views r.seating id d w at same;
   }
 
   -- a load, with a view that is as busy and has tried as much as before
   pub load_kept : (s : State ℕ Known) → MarksHold k s → (id i : ℕ) (d w : Known) → get_elem? s.views id ≡ some d → ViewHolds net s.words w
-      → is_busy w ≡ is_busy d → w.tried ≡ d.tried → w.slot ≡ d.slot → w.splits ≡ d.splits → w.noted ≡ d.noted
+      → is_busy w ≡ is_busy d → w.tried ≡ d.tried → notes_of w ≡ notes_of d
       → MarksHold k record { words = set s.words i (get_or s.words i 0); homes = s.homes; views = set s.views id w }
-  load_kept s r id i d w at mine e₁ e₂ a b c =
+  load_kept s r id i d w at mine e₁ e₂ same =
       subst (λ (ws : List ℕ). MarksHold k record { words = ws; homes = s.homes; views = set s.views id w }) (sym (set-get_or s.words i 0))
       (moved s r id d w at s.words record {
         wide = refl;
@@ -99,17 +72,16 @@ module _ (k : About) where
         mine = mine;
         open_kills = let o = r.open_kills in omega arith;
         kills = let o = r.kills in let t = ap (λ (l : List ℕ). length l) e₂ in omega arith;
-      } a b c)
+      } same)
 
   -- each seat tries each edge once at most
   pub begun_bounded : (s : State ℕ Known) → MarksHold k s → begun net s.words ≤ 65 * length net.edges
-  begun_bounded s r = let t = total_at_most tries (length net.edges) s.views (λ i v e. let h = r.each i v e in distinct_length v.tried (length net.edges) h.tried_once h.tried_below) in
-      let h = r.seated in let c = r.kills in let f₀ = r.few.0 in let few : length s.views ≤ 65 = omega arith in
-      let m : length s.views * length net.edges ≤ 65 * length net.edges = mul-le-mul_right (length net.edges) few in omega arith
+  begun_bounded s r = let t = tries_bounded notes_of k.seats s.homes s.views r.seating (λ d. d.tried) (length net.edges) (λ i d e. let h = r.each i d e in (h.tried_once, h.tried_below)) in
+      let c = r.kills in omega arith
 
   -- so the count of kills stays far below 2 ^ 64
   pub begun_small : (s : State ℕ Known) → MarksHold k s → begun net s.words < 65 * 4294967296
-  begun_small s r = let b = begun_bounded s r in let f = r.few.1 in omega arith
+  begun_small s r = let b = begun_bounded s r in let f = r.few in omega arith
 
   -- where no kill has begun no edge is killed
   pub none_killed : (s : State ℕ Known) → MarksHold k s → begun net s.words ≡ 0 → (e : ℕ) → e < length net.edges → mark_of s.words e ≡ 0

@@ -12,11 +12,12 @@ use Rattle.edge_marks.specs.declared.view.Phase.{Phase}
 use Rattle.edge_marks.specs.declared.view.Phase.TheVariants.{Idle, Begun, Marked}
 use Rattle.edge_marks.specs.declared.view.Known.{Known}
 use Rattle.edge_marks.specs.declared.view.About.{About}
-use Rattle.edge_marks.specs.Words.{bit_in, mark_of}
+use Rattle.mark_seats.specs.Bits.{bit_in}
+use Rattle.edge_marks.specs.Words.{mark_of}
 use Rattle.edge_marks.specs.Rule.{unkilled, IsAim, PhaseHolds, busy, ViewHolds, is_busy, MarksHold}
 use Rattle.edge_marks.specs.Plays.{Sitting, begun_view, started, marked_view, marked, ended_view, ended}
-use Rattle.edge_marks.proofs.Members.{distinct_more}
-use Rattle.edge_marks.proofs.Packed.{marked_words, mark_here, mark_else}
+use Rattle.mark_seats.proofs.Members.{distinct_more}
+use Rattle.mark_seats.proofs.Packed.{with_bit, bit_here, bit_else}
 use Rattle.edge_marks.proofs.Views.{contains_unkilled, live_words, view_words}
 use Rattle.edge_marks.proofs.Looks.{noted_edge}
 use Rattle.edge_marks.proofs.Kept.{net, moved, begun_small, begun_bounded, in_kill}
@@ -61,7 +62,7 @@ module _ (k : About) where
         };
         open_kills = let o = r.open_kills in omega arith;
         kills = let o = r.kills in omega arith;
-      } refl refl refl in
+      } refl in
       let most = begun_bounded k s' kept in let low_is = h.low_is in let bound : x + 1 ≤ 65 * length d.net.edges = subst (λ (m : NetworkParts). x + 1 ≤ 65 * length m.edges) (sym h.net_is) (omega arith) in (
         w,
         keeps,
@@ -72,10 +73,10 @@ module _ (k : About) where
 
   pub marks : (slots id : ℕ) (me : Sitting) (e : ℕ) → me.0.phase ≡ Begun e → Allows (MarksHold k) slots id me (e / 64) (λ x. bit_or x (2 ^ (e % 64))) (marked (step slots (e / 64) (2 ^ (e % 64)) 0 none) me)
   marks slots id me e is s r _ at fits = let n : NetworkParts = net k in let ws : List ℕ = s.words in let E : ℕ = length n.edges in let i : ℕ = e / 64 in let x : ℕ = get_or ws i 0 in let d : Known = me.0 in let h = r.each id d at in
-      let w : Known = marked_view e x d in let y : ℕ = bit_or x (2 ^ (e % 64)) in let ws' : List ℕ = marked_words ws e in let wide = r.wide in let aims : IsAim n d.seen d.tried e = subst (PhaseHolds n ws d.seen d.tried) is h.aim in let low = aims.0 in
+      let w : Known = marked_view e x d in let y : ℕ = bit_or x (2 ^ (e % 64)) in let ws' : List ℕ = with_bit ws e in let wide = r.wide in let aims : IsAim n d.seen d.tried e = subst (PhaseHolds n ws d.seen d.tried) is h.aim in let low = aims.0 in
       let dead = dead_if_broken n d.seen e aims.1 aims.2 (λ f has. let t = h.seen_killed f has in r.safe f t.0 t.1) in
-      let same : (j : ℕ) → j ≢ e → mark_of ws' j ≡ mark_of ws j = λ j ne. mark_else ws e j (omega arith) ne in
-      let now : mark_of ws' e ≡ 1 = mark_here ws e (omega arith) in let lit : 0 < mark_of ws' e = omega arith in
+      let same : (j : ℕ) → j ≢ e → mark_of ws' j ≡ mark_of ws j = λ j ne. bit_else ws e j (omega arith) ne in
+      let now : mark_of ws' e ≡ 1 = bit_here ws e (omega arith) in let lit : 0 < mark_of ws' e = omega arith in
       let now₀ : get_or ws' (E / 64 + 16) 0 ≡ get_or ws (E / 64 + 16) 0 = get_or-set_other ws i (E / 64 + 16) y 0 (λ z. omega arith) in
       let now₁ : get_or ws' (E / 64 + 32) 0 ≡ get_or ws (E / 64 + 32) 0 = get_or-set_other ws i (E / 64 + 32) y 0 (λ z. omega arith) in
       let kept : (f : ℕ) → f < E → 0 < mark_of ws f → 0 < mark_of ws' f = λ f l p. dite (ℕ_discrete f e) (λ z. subst (λ (j : ℕ). 0 < mark_of ws' j) (sym z) lit) (λ z. let m = same f z in omega arith) in
@@ -110,7 +111,7 @@ module _ (k : About) where
           };
           open_kills = let o = r.open_kills in omega arith;
           kills = let o = r.kills in omega arith;
-        } refl refl refl,
+        } refl,
         λ e' is'. let g : Begun e ≡ Begun e' = sym is ∙ is' in let same_e : e ≡ e' = cc in ap (λ (z : ℕ). let v : Sitting = (marked_view z x d, me.1) in v) same_e,
       )
 
@@ -157,6 +158,6 @@ module _ (k : About) where
           };
           open_kills = let o = r.open_kills in omega arith;
           kills = let o = r.kills in omega arith;
-        } refl refl refl),
+        } refl),
         λ e' is'. let g : Marked e ≡ Marked e' = sym is ∙ is' in let same_e : e ≡ e' = cc in ap (λ (y : ℕ). let v : Sitting = (ended_view i y x d, me.1) in v) same_e,
       )

@@ -1,5 +1,4 @@
 pub mod Answering
-pub mod Apart
 pub mod At
 pub mod Blank
 pub mod Closes
@@ -9,12 +8,9 @@ pub mod Kept
 pub mod Kills
 pub mod Loads
 pub mod Looks
-pub mod Members
-pub mod Packed
 pub mod Passes
 pub mod Remembering
 pub mod Seats
 pub mod Sides
 pub mod Sitters
-pub mod Totals
 pub mod Views

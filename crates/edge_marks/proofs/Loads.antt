@@ -3,14 +3,16 @@ use Rattle.std.proofs.Common.{◌≡◌, ℕ, zero, suc, ◌/◌, ◌<◌, map, 
 use Rattle.std.proofs.lemmas.List.{append-nil}
 use Rattle.std.proofs.lemmas.List.Elements.{Contains-append_left, Contains-append_right}
 use Rattle.lmt_network.proofs.Picked.{Contains-here, Contains-later}
+use Rattle.mark_seats.proofs.Supports.{Loads}
 use Rattle.edge_marks.specs.declared.view.Loaded.{Loaded}
 use Rattle.edge_marks.specs.declared.view.Pass.{Pass}
 use Rattle.edge_marks.specs.declared.view.Pass.TheVariants.{InPass}
 use Rattle.edge_marks.specs.declared.view.Known.{Known}
-use Rattle.edge_marks.specs.Words.{bit_in}
+use Rattle.mark_seats.specs.Bits.{bit_in}
 use Rattle.edge_marks.specs.Rule.{loaded}
 use Rattle.edge_marks.specs.Plays.{now_seen, now_loaded, looked_view}
-use Rattle.edge_marks.specs.Told.{Asked, asked, looked_all, ask_made, MakesLoads, FoundLive}
+use Rattle.mark_seats.specs.Supports.{Asked, asked}
+use Rattle.edge_marks.specs.Told.{looked_all, ask_made, MakesLoads, FoundLive}
 
 pub looked_append : (xs ys : List Asked) (d : Known) → looked_all (xs ++ ys) d ≡ looked_all ys (looked_all xs d)
 looked_append [] ys d = refl
@@ -80,3 +82,7 @@ live_back xs ys f h = (h.0, Contains-append_right xs ys (asked f h.0) h.1, h.2)
 
 pub live_one : (f x : ℕ) → bit_in x f ≡ 0 → FoundLive (asked f x ∷ []) f
 live_one f x h = (x, Contains-here (asked f x) [], h)
+
+-- what these loads are, for an examination
+abbrev pub marks_loaded : Loads Known
+marks_loaded = record { after = looked_all; seen = λ d. d.seen; Live = FoundLive; more = looked_append; kept = seen_kept; live_front = live_front; live_back = live_back }

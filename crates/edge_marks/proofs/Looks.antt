@@ -12,10 +12,11 @@ use Rattle.edge_marks.specs.declared.view.Pass.{Pass}
 use Rattle.edge_marks.specs.declared.view.Pass.TheVariants.{NoPass, AtFirst, InPass}
 use Rattle.edge_marks.specs.declared.view.Known.{Known}
 use Rattle.edge_marks.specs.declared.view.About.{About}
-use Rattle.edge_marks.specs.Words.{bit_in, mark_of}
+use Rattle.mark_seats.specs.Bits.{bit_in}
+use Rattle.edge_marks.specs.Words.{mark_of}
 use Rattle.edge_marks.specs.Rule.{unkilled, loaded, PassHolds, MarksHold}
 use Rattle.edge_marks.specs.Plays.{Sitting, now_seen, now_loaded, looked_view, LookTells, looked}
-use Rattle.edge_marks.proofs.Members.{contains_cut}
+use Rattle.mark_seats.proofs.Members.{contains_cut}
 use Rattle.edge_marks.proofs.Loads.{seen_more}
 use Rattle.edge_marks.proofs.Views.{contains_unkilled, unkilled_contains, phase_seen}
 use Rattle.edge_marks.proofs.Kept.{net, load_kept}
@@ -77,6 +78,6 @@ module _ (k : About) where
           in_pass = pass_loaded n s.words i x d.pass (omega arith) refl h.in_pass;
           quiet = h.quiet;
           low_is = h.low_is;
-        } refl refl refl refl refl,
+        } refl refl refl,
         λ k' e' is. let same : e ≡ e' = ap noted_edge (sym carried ∙ is) in subst TellsOf same told,
       )

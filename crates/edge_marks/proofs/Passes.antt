@@ -15,7 +15,8 @@ use Rattle.edge_marks.specs.declared.view.Pass.{Pass}
 use Rattle.edge_marks.specs.declared.view.Pass.TheVariants.{NoPass, AtFirst, InPass}
 use Rattle.edge_marks.specs.declared.view.Known.{Known}
 use Rattle.edge_marks.specs.declared.view.About.{About}
-use Rattle.edge_marks.specs.Words.{bit_in, mark_of}
+use Rattle.mark_seats.specs.Bits.{bit_in}
+use Rattle.edge_marks.specs.Words.{mark_of}
 use Rattle.edge_marks.specs.Rule.{finished, unkilled, ArePresent, PassHolds, WasLive, WasKilled, HadSupport, AreJudged, MarksHold}
 use Rattle.edge_marks.specs.Plays.{Sitting, opened_view, opened, compared, compared_view, read_finished, has_begun_with, settled_view, settled}
 use Rattle.edge_marks.proofs.Sides.{other_side_in}
@@ -60,7 +61,7 @@ module _ (k : About) where
           in_pass = same;
           quiet = h.quiet;
           low_is = same;
-        } refl refl refl refl refl,
+        } refl refl refl,
         (refl, h.low_is, bound),
       )
 
@@ -79,7 +80,7 @@ module _ (k : About) where
       in_pass = pass_compared n s.words x d.pass refl h.in_pass;
       quiet = h.quiet;
       low_is = h.low_is;
-    } refl refl refl refl refl,
+    } refl refl refl,
     refl,
   )
 
@@ -126,6 +127,6 @@ module _ (k : About) where
               (λ (a : has_begun_with x d.pass ≡ true). live_now s r loads (pass.1 (eqb_same x b (ap (has_begun_with x) (sym is) ∙ a))).1 judged)
               (or_true d.settled (has_begun_with x d.pass) z);
           low_is = same;
-        } refl refl refl refl refl,
+        } refl refl refl,
         (refl, h.low_is, bound),
       )

@@ -6,9 +6,11 @@ use Rattle.lmt_network.proofs.Picked.{Contains-later}
 use Rattle.edge_marks.specs.declared.view.Made.{Made}
 use Rattle.edge_marks.specs.declared.view.Made.TheVariants.{Load, Or, Add, Fork}
 use Rattle.edge_marks.specs.declared.view.Known.{Known}
-use Rattle.edge_marks.specs.Words.{bit_in, begun_word, finished_word}
+use Rattle.mark_seats.specs.Bits.{bit_in}
+use Rattle.edge_marks.specs.Words.{begun_word, finished_word}
 use Rattle.edge_marks.specs.Plays.{looked_view, begun_view, marked_view, ended_view, has_begun_with, settled_view, left_view}
-use Rattle.edge_marks.specs.Told.{Asked, looked_all, Remembers, entered}
+use Rattle.mark_seats.specs.Supports.{Asked}
+use Rattle.edge_marks.specs.Told.{looked_all, Remembers, entered}
 use Rattle.edge_marks.proofs.Loads.{seen_more}
 
 pub remembers_self : (d : Known) → Remembers d d

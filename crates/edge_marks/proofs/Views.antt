@@ -13,7 +13,7 @@ use Rattle.edge_marks.specs.declared.view.Pass.TheVariants.{NoPass, AtFirst, InP
 use Rattle.edge_marks.specs.declared.view.Known.{Known}
 use Rattle.edge_marks.specs.Words.{mark_of}
 use Rattle.edge_marks.specs.Rule.{begun, finished, unkilled, IsAim, PhaseHolds, PassHolds, ViewHolds}
-use Rattle.edge_marks.proofs.Members.{any_more, contains_last, contains_more, contains_cut}
+use Rattle.mark_seats.proofs.Members.{any_more, contains_last, contains_more, contains_cut}
 
 unkilled_live : (k : ℕ) (ws : List ℕ) → mark_of ws k ≡ 0 → unkilled (suc k) ws ≡ unkilled k ws ++ k ∷ []
 unkilled_live k ws h = ap (λ (b : Bool). cond b (unkilled k ws ++ k ∷ []) (unkilled k ws)) (eq-eqb (mark_of ws k) 0 h)

@@ -15,7 +15,8 @@ use Rattle.edge_marks.specs.declared.view.Phase.TheVariants.{Idle, Begun, Marked
 use Rattle.edge_marks.specs.declared.view.Pass.{Pass}
 use Rattle.edge_marks.specs.declared.view.Pass.TheVariants.{NoPass, AtFirst, InPass}
 use Rattle.edge_marks.specs.declared.view.Known.{Known}
-use Rattle.edge_marks.specs.Words.{bit_in, most_kills}
+use Rattle.mark_seats.specs.Bits.{bit_in}
+use Rattle.edge_marks.specs.Words.{most_kills}
 use Rattle.edge_marks.specs.Rule.{loaded}
 
 -- a seat: what it knows, and its note

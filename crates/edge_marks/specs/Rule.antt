@@ -1,14 +1,15 @@
 -- The rule of the marks: what holds between any two steps of any seats.
 -- It speaks of the words (`Words`) and of the views of all seats. A view is what is known of a seat in proofs; only the
--- seat's own steps change it, as `Plays` says. Beside its view each seat has a note, a slot of its own in which it writes
--- the edge that its next step is for, where a step of a word cannot tell which. Notes stand at each 32nd slot, 128 bytes
--- apart, so that seats write theirs without a cache line in common.
-use Rattle.std.specs.Prelude.{◌≡◌, ◌≢◌, ◌⊎◌, ℕ, zero, suc, ◌+◌, ◌*◌, ◌/◌, ◌-◌, ◌^◌, ◌<◌, ◌≤◌, Bool, true, false, eqb, cond, List, [], ◌∷◌, ◌++◌, length, slice_index, AllPairs, Any, Contains}
+-- seat's own steps change it, as `Plays` says. Beside its view each seat has a note (`mark_seats`), in which it writes the
+-- edge that its next step is for, where a step of a word cannot tell which.
+use Rattle.std.specs.Prelude.{◌≡◌, ◌≢◌, ◌⊎◌, ℕ, zero, suc, ◌+◌, ◌/◌, ◌-◌, ◌^◌, ◌<◌, ◌≤◌, true, false, eqb, cond, List, [], ◌∷◌, ◌++◌, length, slice_index, AllPairs, Any, Contains}
 use mathlib.Core.Option.{some}
 use lib.ListN.{get_elem?}
 use Rattle.atomic_table.specs.Table.{State}
 use Rattle.lmt_network.specs.Network.{NetworkParts}
 use Rattle.lmt_network.specs.Numbers.{IsHullNumber, IsMinimalPair, IsOtherSide, AreLive, IsDead, IsBroken}
+use Rattle.mark_seats.specs.Bits.{bit_in}
+use Rattle.mark_seats.specs.Seats.{Notes, SeatsHold, total}
 use Rattle.edge_marks.specs.declared.view.Loaded.{Loaded}
 use Rattle.edge_marks.specs.declared.view.Phase.{Phase}
 use Rattle.edge_marks.specs.declared.view.Phase.TheVariants.{Idle, Begun, Marked}
@@ -16,7 +17,7 @@ use Rattle.edge_marks.specs.declared.view.Pass.{Pass}
 use Rattle.edge_marks.specs.declared.view.Pass.TheVariants.{NoPass, AtFirst, InPass}
 use Rattle.edge_marks.specs.declared.view.Known.{Known}
 use Rattle.edge_marks.specs.declared.view.About.{About}
-use Rattle.edge_marks.specs.Words.{bit_in, mark_of, mark_words, begun_word, finished_word, word_count, most_seats}
+use Rattle.edge_marks.specs.Words.{mark_of, mark_words, begun_word, finished_word, word_count}
 
 -- how many kills have begun
 abbrev pub begun : NetworkParts → List ℕ → ℕ
@@ -93,10 +94,6 @@ busy Idle = 0
 busy (Begun e) = 1
 busy (Marked e) = 1
 
-abbrev pub one_if : Bool → ℕ
-one_if false = 0
-one_if true = 1
-
 -- What the rule says of one view.
 pub record ViewHolds (n : NetworkParts) (ws : List ℕ) (d : Known) : Type 0 where
   pub net_is : d.net ≡ n
@@ -113,25 +110,19 @@ pub record ViewHolds (n : NetworkParts) (ws : List ℕ) (d : Known) : Type 0 whe
   -- no fewer kills have begun than the seat knows of
   pub low_is : d.low ≤ begun n ws
 
--- the sum over all views
-abbrev pub total : (Known → ℕ) → List Known → ℕ
-total f [] = 0
-total f (d ∷ ds) = f d + total f ds
-
 abbrev pub is_busy : Known → ℕ
 is_busy d = busy d.phase
 
 abbrev pub tries : Known → ℕ
 tries d = length d.tried
 
-abbrev pub splits_of : Known → ℕ
-splits_of d = d.splits
+abbrev pub notes_of : Known → Notes
+notes_of d = record { slot = d.slot; splits = d.splits; noted = d.noted }
 
 -- The rule, for the network and the number of seats that the marks were opened with.
 pub record MarksHold (k : About) (s : State ℕ Known) : Type 0 where
   pub wide : length s.words ≡ word_count k.net.value
-  pub deep : length s.homes ≡ k.seats * 32
-  pub few : (k.seats ≤ most_seats) × (length k.net.value.edges < 2 ^ 32)
+  pub few : length k.net.value.edges < 2 ^ 32
   -- no closed edges have a killed one
   pub safe : (e : ℕ) → e < length k.net.value.edges → 0 < mark_of s.words e → IsDead k.net.value e
   -- each killed edge was tried by some seat
@@ -143,10 +134,4 @@ pub record MarksHold (k : About) (s : State ℕ Known) : Type 0 where
   pub open_kills : finished k.net.value s.words + total is_busy s.views ≡ begun k.net.value s.words
   -- the kills that have begun are the tries of all seats
   pub kills : begun k.net.value s.words ≡ total tries s.views
-  -- the seats there are, and those that they may still split off, are as many as the marks were opened with
-  pub seated : length s.views + total splits_of s.views ≡ k.seats
-  -- the notes of the seats that a seat may split off are at home, and its own is until it takes it
-  pub noted : (j : ℕ) (d : Known) → get_elem? s.views j ≡ some d → (d.slot + d.splits < k.seats)
-      × ((i : ℕ) → d.slot + one_if d.noted ≤ i → i ≤ d.slot + d.splits → (y : ℕ) × (get_elem? s.homes (i * 32) ≡ some (some y)))
-  -- the notes of different seats are apart
-  pub apart : (i j : ℕ) (d e : Known) → i ≢ j → get_elem? s.views i ≡ some d → get_elem? s.views j ≡ some e → (d.slot + d.splits < e.slot) ⊎ (e.slot + e.splits < d.slot)
+  pub seating : SeatsHold notes_of k.seats s.homes s.views

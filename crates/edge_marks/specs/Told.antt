@@ -1,7 +1,8 @@
 -- What a call tells of its seat: what the seat still knows, and what `examine` and `settle` have found, by the loads of the call.
-use Rattle.std.specs.Prelude.{◌≡◌, ◌≢◌, ◌⊎◌, ℕ, ◌/◌, ◌<◌, ◌≤◌, true, List, [], ◌∷◌, ◌++◌, length, map, Any, Contains}
+use Rattle.std.specs.Prelude.{◌≡◌, ◌≢◌, ◌⊎◌, ℕ, ◌/◌, ◌<◌, ◌≤◌, true, List, [], ◌∷◌, ◌++◌, length, map, Contains}
 use Rattle.lmt_network.specs.Network.{NetworkParts}
-use Rattle.lmt_network.specs.Numbers.{IsHullNumber, IsMinimalPair, IsOnLeft, IsOnRight, IsSideOf, IsOtherSide, IsBroken}
+use Rattle.lmt_network.specs.Numbers.{IsHullNumber, IsBroken}
+use Rattle.mark_seats.specs.Supports.{Asked, asked, IsLivePair}
 use Rattle.edge_marks.specs.declared.answer.Found.{Found}
 use Rattle.edge_marks.specs.declared.answer.Found.TheVariants.{Supported, Unsupported}
 use Rattle.edge_marks.specs.declared.answer.Settle.{Settle}
@@ -9,7 +10,8 @@ use Rattle.edge_marks.specs.declared.answer.Settle.TheVariants.{Quiet, Lone, Mov
 use Rattle.edge_marks.specs.declared.view.Made.{Made}
 use Rattle.edge_marks.specs.declared.view.Made.TheVariants.{Load}
 use Rattle.edge_marks.specs.declared.view.Known.{Known}
-use Rattle.edge_marks.specs.Words.{bit_in, begun_word, finished_word}
+use Rattle.mark_seats.specs.Bits.{bit_in}
+use Rattle.edge_marks.specs.Words.{begun_word, finished_word}
 use Rattle.edge_marks.specs.Plays.{looked_view, opened_view, compared_view, settled_view}
 
 -- What a seat knew it still knows, and the steps of the calls in between come after its steps.
@@ -20,15 +22,7 @@ pub record Remembers (d d' : Known) : Type 0 where
   pub low : d.low ≤ d'.low
   pub steps : (made : List Made) × (d'.steps ≡ d.steps ++ made)
 
--- a load that asks for an edge, and the value of the edge's word that it gave
-pub record Asked : Type 0 where
-  pub edge : ℕ
-  pub value : ℕ
-
-abbrev pub asked : ℕ → ℕ → Asked
-asked e x = record { edge = e; value = x }
-
--- the view after such loads, in their order
+-- the view after loads that ask for edges, in their order
 abbrev pub looked_all : List Asked → Known → Known
 looked_all [] d = d
 looked_all (l ∷ ls) d = looked_all ls (looked_view l.edge l.value d)
@@ -49,41 +43,17 @@ FoundLive ls f = (x : ℕ) × Contains ls (asked f x) × (bit_in x f ≡ 0)
 abbrev pub FoundKilled : List Asked → ℕ → Type 0
 FoundKilled ls f = (x : ℕ) × Contains ls (asked f x) × (0 < bit_in x f)
 
--- each load is for a side, not e, of the triangle t
-abbrev pub AskForSidesOf : NetworkParts → ℕ → ℕ → List Asked → Type 0
-AskForSidesOf n e t ls = (l : Asked) → Contains ls l → (l.edge ≢ e) × IsSideOf n t l.edge
-
--- each load is for a side, not e, of a triangle on the left or on the right of e
-abbrev pub AskForSides : NetworkParts → ℕ → List Asked → Type 0
-AskForSides n e ls = (l : Asked) → Contains ls l → (l.edge ≢ e) × ((t : ℕ) × (IsOnLeft n e t ⊎ IsOnRight n e t) × IsSideOf n t l.edge)
-
--- each side of the triangle t but e was found live
-abbrev pub HasLiveSides : NetworkParts → ℕ → ℕ → List Asked → Type 0
-HasLiveSides n e t ls = (f : ℕ) → IsSideOf n t f → f ≢ e → FoundLive ls f
-
--- a side of the triangle t other than e was seen killed
-abbrev pub HasKilledSide : NetworkParts → ℕ → ℕ → List ℕ → Type 0
-HasKilledSide n e t seen = (f : ℕ) × (f ≢ e) × IsSideOf n t f × Contains seen f
-
--- e is locally minimal between l and r, and each other side of both was found live
-abbrev pub IsLivePair : NetworkParts → ℕ → ℕ → ℕ → List Asked → Type 0
-IsLivePair n e l r ls = IsMinimalPair n e l r × ((f : ℕ) → IsOtherSide n e l r f → FoundLive ls f)
-
 -- the edge e is a hull edge, or was found killed, or has a support that was found live
 abbrev pub WasJudged : NetworkParts → List Asked → ℕ → Type 0
-WasJudged n ls e = IsHullNumber n e ⊎ (FoundKilled ls e ⊎ ((l : ℕ) × (r : ℕ) × IsLivePair n e l r ls))
+WasJudged n ls e = IsHullNumber n e ⊎ (FoundKilled ls e ⊎ ((l : ℕ) × (r : ℕ) × IsLivePair n e l r (FoundLive ls)))
 
 -- each edge below k was judged by the loads
 abbrev pub WereJudged : NetworkParts → List Asked → ℕ → Type 0
 WereJudged n ls k = (e : ℕ) → e < k → WasJudged n ls e
 
--- each locally minimal pair of e with l on its left has another side that was seen killed
-abbrev pub IsBrokenWith : NetworkParts → ℕ → ℕ → List ℕ → Type 0
-IsBrokenWith n e l seen = (r : ℕ) → IsMinimalPair n e l r → Any (IsOtherSide n e l r) seen
-
 -- what `examine` has found of the edge e, where the seat has then seen these edges killed
 abbrev pub FoundBy : NetworkParts → ℕ → List Asked → List ℕ → Found → Type 0
-FoundBy n e ls seen (Supported l r) = IsLivePair n e l r ls
+FoundBy n e ls seen (Supported l r) = IsLivePair n e l r (FoundLive ls)
 FoundBy n e ls seen Unsupported = IsBroken n seen e
 
 -- the view after the two loads that begin a pass

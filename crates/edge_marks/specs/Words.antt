@@ -2,17 +2,13 @@
 -- First stand the mark words, with a bit for each edge, 64 to a word: the bit is 1 once the edge is killed. Then come two
 -- counters: of the kills that have begun, and of those that have finished. A counter stands 16 words, which are 128 bytes,
 -- from the words before it and after it, so that it has no cache line in common with what other threads use.
-use Rattle.std.specs.Prelude.{ℕ, ◌+◌, ◌*◌, ◌/◌, ◌%◌, List, length, slice_index}
-use Rattle.std.specs.Int.{bit_at}
+use Rattle.std.specs.Prelude.{ℕ, ◌+◌, ◌*◌, ◌/◌, List, length}
 use Rattle.lmt_network.specs.Network.{NetworkParts}
+use Rattle.mark_seats.specs.Bits.{bit_of}
 
--- the bit of the edge e in the value of its word, which is the word e / 64
-abbrev pub bit_in : ℕ → ℕ → ℕ
-bit_in x e = bit_at x (e % 64)
-
--- the bit of the edge e
+-- the mark of the edge e, which is its bit
 abbrev pub mark_of : List ℕ → ℕ → ℕ
-mark_of ws e = bit_in (slice_index ws (e / 64)) e
+mark_of ws e = bit_of ws e
 
 -- how many mark words there are
 abbrev pub mark_words : NetworkParts → ℕ
@@ -29,10 +25,6 @@ finished_word n = length n.edges / 64 + 32
 -- how many words there are in all
 abbrev pub word_count : NetworkParts → ℕ
 word_count n = length n.edges / 64 + 48
-
--- the most seats: one for each of 64 workers, and one more
-abbrev pub most_seats : ℕ
-most_seats = 65
 
 -- the most kills that can begin: each seat tries each edge at most once
 abbrev pub most_kills : NetworkParts → ℕ

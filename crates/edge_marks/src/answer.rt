@@ -1,9 +1,9 @@
 // What the calls answer.
 ghost use Rattle.std.specs.Prelude.{◌≡◌};
 ghost use Rattle.edge_marks.specs.Answers.{look_of, kill_of};
-ghost use Rattle.edge_marks.specs.Words.{bit_in};
+ghost use Rattle.mark_seats.specs.Bits.{bit_in};
 
-use crate::bits::bit_of;
+use mark_seats::edge_bit;
 
 /// What a load of an edge's bit gave.
 #[derive(Clone, Copy, Debug, PartialEq, Eq)]
@@ -45,7 +45,7 @@ impl Look {
     pub(crate) fn of(word: u64, e: u32) -> Look
         ensures { result ≡ look_of (bit_in word e) }
     {
-        if bit_of(word, e) == 0 {
+        if edge_bit(word, e) == 0 {
             Look::Live
         } else {
             Look::Killed
@@ -58,7 +58,7 @@ impl Kill {
     pub(crate) fn of(word: u64, e: u32) -> Kill
         ensures { result ≡ kill_of (bit_in word e) }
     {
-        if bit_of(word, e) == 0 {
+        if edge_bit(word, e) == 0 {
             Kill::First
         } else {
             Kill::Already

@@ -5,12 +5,13 @@ ghost use Rattle.edge_marks.specs.Answers.{look_of, kill_of};
 ghost use Rattle.edge_marks.specs.Handles.{IsSameSeat, Belongs};
 ghost use Rattle.edge_marks.specs.Plays.{looked_view, begun_view, marked_view, ended_view};
 ghost use Rattle.edge_marks.specs.Told.{Remembers};
-ghost use Rattle.edge_marks.specs.Words.{bit_in, begun_word, finished_word, most_kills};
+ghost use Rattle.mark_seats.specs.Bits.{bit_in};
+ghost use Rattle.edge_marks.specs.Words.{begun_word, finished_word, most_kills};
 
 use crate::answer::{Kill, Look};
-use crate::bits::{is_set, mask, set_bit};
-use crate::handles::{COUNTER_STEP, Marks, NOTE_STEP, Seat};
+use crate::handles::{Marks, Seat};
 use crate::plays::{Finish, Mark, See, Start};
+use mark_seats::{COUNTER_STEP, NOTE_STEP, is_set, mask, set_bit};
 
 impl Seat {
     /// How many seats may still be split off.

@@ -8,10 +8,10 @@ ghost use Rattle.edge_marks.specs.declared.view.Known.{Known};
 ghost use Rattle.edge_marks.specs.Handles.{Belongs, IsStateWith, AreFlagsOf};
 ghost use Rattle.edge_marks.specs.Words.{mark_of};
 
-use crate::bits::bit_of;
 use crate::handles::{Marks, Seat};
 use atomic_table::Closed;
 use lmt_network::Flags;
+use mark_seats::{edge_bit, put_away};
 use std::alloc::Global;
 
 // Drops the flags of the edges whose bit is set.
@@ -22,22 +22,10 @@ fn drop_killed(closed: &Closed<u32, Global>, flags: &mut Flags, count: u32)
     ensures each { (e : ℕ) → e < count → slice_index_or flags.new e false ≡ eqb (mark_of (slots_items closed.now.words) e) 0 }
 {
     for e in 0..count {
-        if bit_of(closed.word((e / 64) as usize), e) != 0 {
+        if edge_bit(closed.word((e / 64) as usize), e) != 0 {
             flags.drop_edge(e);
         }
     }
-}
-
-// Frees the words and the notes.
-fn put_away(mut closed: Closed<u32, Global>)
-    requires { IsFull closed.slots }
-{
-    let mut i = 0;
-    while i < closed.slot_count() {
-        closed.take(i);
-        i += 1;
-    }
-    closed.free();
 }
 
 impl Marks {

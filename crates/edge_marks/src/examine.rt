@@ -2,7 +2,8 @@
 ghost use Rattle.std.specs.Prelude.{◌≡◌, ◌≢◌, ℕ, ◌<◌, true, false, List, length, Contains, IfSome, IfNone};
 ghost use Rattle.lmt_network.specs.Numbers.{IsMinimalPair, IsOnLeft, IsOnRight};
 ghost use Rattle.edge_marks.specs.Handles.{IsSameSeat, Belongs};
-ghost use Rattle.edge_marks.specs.Told.{Remembers, Asked, looked_all, FoundLive, AskForSidesOf, AskForSides, HasLiveSides, HasKilledSide, IsLivePair, IsBrokenWith, FoundBy, MakesLoads};
+ghost use Rattle.mark_seats.specs.Supports.{Asked, AskForSidesOf, AskForSides, HasLiveSides, HasKilledSide, IsLivePair, IsBrokenWith};
+ghost use Rattle.edge_marks.specs.Told.{Remembers, looked_all, FoundLive, FoundBy, MakesLoads};
 
 use crate::answer::{Found, Look};
 use crate::handles::{Marks, Seat};
@@ -34,7 +35,7 @@ impl Marks {
         requires t_in { t < length self.now.net.tris }
         ensures seat { IsSameSeat seat.old seat.new × Belongs self.now seat.new }
         ensures told { (ls : List Asked) × (seat.new.known ≡ looked_all ls seat.old.known) × AskForSidesOf self.now.net e t ls
-            × (result ≡ true → HasLiveSides self.now.net e t ls)
+            × (result ≡ true → HasLiveSides self.now.net e t (FoundLive ls))
             × (result ≡ false → HasKilledSide self.now.net e t seat.new.known.seen) }
     {
         let sides = net.sides(t);
@@ -54,7 +55,7 @@ impl Marks {
         requires on_right { IsOnRight self.now.net e r }
         ensures seat { IsSameSeat seat.old seat.new × Belongs self.now seat.new }
         ensures told { (ls : List Asked) × (seat.new.known ≡ looked_all ls seat.old.known) × AskForSidesOf self.now.net e r ls
-            × (result ≡ true → IsMinimalPair self.now.net e l r × HasLiveSides self.now.net e r ls)
+            × (result ≡ true → IsMinimalPair self.now.net e l r × HasLiveSides self.now.net e r (FoundLive ls))
             × (result ≡ false → IsMinimalPair self.now.net e l r → HasKilledSide self.now.net e r seat.new.known.seen) }
     {
         if !self.has_live_sides(net, seat, e, r) {
@@ -70,7 +71,7 @@ impl Marks {
         requires on_left { IsOnLeft self.now.net e l }
         ensures seat { IsSameSeat seat.old seat.new × Belongs self.now seat.new }
         ensures told { (ls : List Asked) × (seat.new.known ≡ looked_all ls seat.old.known) × AskForSides self.now.net e ls
-            × IfSome result (λ r. IsLivePair self.now.net e l r ls)
+            × IfSome result (λ r. IsLivePair self.now.net e l r (FoundLive ls))
             × IfNone result (IsBrokenWith self.now.net e l seat.new.known.seen) }
     {
         if !self.has_live_sides(net, seat, e, l) {
@@ -92,7 +93,7 @@ impl Marks {
         requires on_right { IsOnRight self.now.net e r }
         ensures seat { IsSameSeat seat.old seat.new × Belongs self.now seat.new }
         ensures told { (ls : List Asked) × (seat.new.known ≡ looked_all ls seat.old.known) × AskForSides self.now.net e ls
-            × (result ≡ true → IsLivePair self.now.net e l r ls) }
+            × (result ≡ true → IsLivePair self.now.net e l r (FoundLive ls)) }
     {
         if !self.has_live_sides(net, seat, e, l) {
             return false;
@@ -106,7 +107,7 @@ impl Marks {
         requires inside { e < length self.now.net.edges }
         ensures seat { IsSameSeat seat.old seat.new × Belongs self.now seat.new }
         ensures told { (ls : List Asked) × (seat.new.known ≡ looked_all ls seat.old.known) × AskForSides self.now.net e ls
-            × IfSome result (λ pair. IsLivePair self.now.net e pair.0 pair.1 ls) }
+            × IfSome result (λ pair. IsLivePair self.now.net e pair.0 pair.1 (FoundLive ls)) }
     {
         let (l, r) = seat.last_pair(net, e)?;
         if self.stands(net, seat, e, l, r) {

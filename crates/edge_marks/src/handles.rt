@@ -6,12 +6,6 @@ use lmt_network::Flags;
 use std::alloc::Global;
 use std::marker::Model;
 
-// Notes stand at each 32nd slot of four bytes, and counters 16 words of eight bytes from what stands beside
-// them, so that threads write them without a cache line in common.
-pub(crate) const NOTE_STEP: usize = 32;
-
-pub(crate) const COUNTER_STEP: usize = 16;
-
 /// Which edges of a network are killed, a bit for each. Threads read it and kill edges through it, each
 /// with a seat of its own, and none waits for another.
 #[derive(Drop)]

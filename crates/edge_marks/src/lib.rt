@@ -4,7 +4,6 @@
 #![tactic(auto)]
 
 mod answer;
-mod bits;
 mod calls;
 mod close;
 mod examine;

@@ -1,34 +1,22 @@
 // Marks are opened, and a seat is split.
-ghost use Rattle.std.specs.Prelude.{◌≡◌, ℕ, ◌<◌, ◌≤◌, length, replicate, IfOk, All};
+ghost use Rattle.std.specs.Prelude.{◌≡◌, ℕ, ◌<◌, ◌≤◌, IfOk};
+ghost use Rattle.mark_seats.specs.Seats.{most_seats};
 ghost use Rattle.atomic_table.specs.Table.{State};
 ghost use Rattle.edge_marks.specs.declared.view.Known.{Known};
 ghost use Rattle.edge_marks.specs.Rule.{AreBlank, first_known};
 ghost use Rattle.edge_marks.specs.Handles.{Belongs, IsSameSeat, IsStateWith};
 ghost use Rattle.edge_marks.specs.Plays.{noted_view, left_view, right_view};
 ghost use Rattle.edge_marks.specs.Told.{Remembers};
-ghost use Rattle.edge_marks.specs.Words.{most_seats};
 
-use crate::handles::{COUNTER_STEP, Marks, NOTE_STEP, Seat};
+use crate::handles::{Marks, Seat};
 use crate::plays::{Cut, TakeNote};
 use crate::view::About;
 use atomic_table::Table;
 use lmt_network::{Flags, Network};
+use mark_seats::{COUNTER_STEP, NOTE_STEP, blank_rows};
 use mwt_base::NoMemory;
-use std::alloc::{AllocError, Global};
+use std::alloc::Global;
 use std::snapshot::Snapshot;
-
-// So many rows of bits, none of them set.
-fn blank_rows(alloc: Global, count: usize, len: usize) -> Result<Vec<Vec<u64>>, AllocError>
-    ensures count { IfOk result (λ rows. length rows.items ≡ count) }
-    ensures blank { IfOk result (λ rows. All (λ row. row.items ≡ replicate len 0) rows.items) }
-{
-    let mut rows = Vec::with_capacity(alloc, count)?;
-    'fill: for _ in 0..count {
-        let row = Vec::from_elem(alloc, 0u64, len)?;
-        rows.push(row)?;
-    }
-    Ok(rows)
-}
 
 impl Marks {
     /// The marks of the network, with each edge live and no kill begun or finished, and the first of at most

@@ -7,7 +7,8 @@ ghost use Rattle.edge_marks.specs.Rule.{AreJudged};
 ghost use Rattle.edge_marks.specs.Handles.{IsSameSeat, Belongs};
 ghost use Rattle.edge_marks.specs.Plays.{settled_view};
 ghost use Rattle.edge_marks.specs.Words.{begun_word, most_kills};
-ghost use Rattle.edge_marks.specs.Told.{Remembers, Asked, looked_all, FoundLive, WasJudged, entered, SettledBy};
+ghost use Rattle.mark_seats.specs.Supports.{Asked};
+ghost use Rattle.edge_marks.specs.Told.{Remembers, looked_all, FoundLive, WasJudged, entered, SettledBy};
 
 use crate::answer::{Found, Look, Settle};
 use crate::handles::{Marks, Seat};

@@ -19,7 +19,8 @@ use Rattle.ticket_marks.specs.Rule.{ranked, edges_seen, DrawnHolds, ViewHolds, T
 use Rattle.ticket_marks.specs.Words.{issued}
 use Rattle.ticket_marks.specs.Plays.{Sitting, drawn_view, drew, now_mark, killed_view, killed}
 use Rattle.ticket_marks.proofs.Kept.{net, moved, still, issued_small, issued_bounded}
-use Rattle.ticket_marks.proofs.Members.{distinct_more, seen_rank}
+use Rattle.mark_seats.proofs.Members.{distinct_more}
+use Rattle.ticket_marks.proofs.SeenRanks.{seen_rank}
 use Rattle.ticket_marks.proofs.Views.{derivation_same, derivation_more, view_words}
 
 now_mark_first : (t x : ℕ) → x ≡ 0 → now_mark t x ≡ t + 1
@@ -74,7 +75,7 @@ module _ (k : About) where
           );
         };
         tickets = let o = r.tickets in omega arith;
-      } refl refl refl in
+      } refl in
       let most = issued_bounded k s' kept in let bound : x + 1 ≤ 65 * length d.net.edges = subst (λ (m : NetworkParts). x + 1 ≤ 65 * length m.edges) (sym h.net_is) (omega arith) in (
         w,
         keeps,
@@ -120,7 +121,7 @@ module _ (k : About) where
           ticket = tt;
         };
         tickets = let o = r.tickets in omega arith;
-      } refl refl refl
+      } refl
 
   -- the state after a kill that found a rank
   already : (s : State ℕ Known) → TicketsHold k s → (id e t : ℕ) (d : Known) → get_elem? s.views id ≡ some d → d.drawn ≡ Ticket e t → get_or s.words e 0 ≢ 0
@@ -137,7 +138,7 @@ module _ (k : About) where
         tried_below = h.tried_below;
         tried_once = h.tried_once;
         ticket = tt;
-      } refl refl refl refl
+      } refl refl
 
   pub stores : (slots id : ℕ) (me : Sitting) (e t m : ℕ) → me.0.drawn ≡ Ticket e t → m ≡ t + 1
       → Allows (TicketsHold k) slots id me e (λ x. either (eqb x 0) m x) (killed (step slots e 0 m none) me)

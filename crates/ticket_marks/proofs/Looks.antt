@@ -53,7 +53,7 @@ module _ (k : About) where
           tried_below = h.tried_below;
           tried_once = h.tried_once;
           ticket = drawn_seen n (issued n s.words) d.seen (now_seen e x d.seen) d.tried d.drawn (λ y has. seen_more e x y d.seen has) h.ticket;
-        } refl refl refl refl,
+        } refl refl,
         (
           refl,
           record {

@@ -7,7 +7,8 @@ use Rattle.ticket_marks.specs.declared.view.Made.TheVariants.{Load, Add, Exchang
 use Rattle.ticket_marks.specs.declared.view.Known.{Known}
 use Rattle.ticket_marks.specs.Rule.{ranked}
 use Rattle.ticket_marks.specs.Plays.{now_mark, looked_view, drawn_view, killed_view, left_view}
-use Rattle.ticket_marks.specs.Told.{Asked, looked_all, Remembers}
+use Rattle.mark_seats.specs.Supports.{Asked}
+use Rattle.ticket_marks.specs.Told.{looked_all, Remembers}
 use Rattle.ticket_marks.proofs.Loads.{seen_more}
 
 remembers_self : (d : Known) → Remembers d d
@@ -25,7 +26,7 @@ remembers_look e x d = record { seen = λ s h. seen_more e x s d.seen h; tried =
 
 pub remembers_looks : (ls : List Asked) (d : Known) → Remembers d (looked_all ls d)
 remembers_looks [] d = remembers_self d
-remembers_looks (l ∷ ls) d = remembers_on d (looked_view l.edge l.mark d) (looked_all ls (looked_view l.edge l.mark d)) (remembers_look l.edge l.mark d) (remembers_looks ls (looked_view l.edge l.mark d))
+remembers_looks (l ∷ ls) d = remembers_on d (looked_view l.edge l.value d) (looked_all ls (looked_view l.edge l.value d)) (remembers_look l.edge l.value d) (remembers_looks ls (looked_view l.edge l.value d))
 
 pub remembers_kill : (i e t x : ℕ) (d : Known) → Remembers d (killed_view e t x (drawn_view i e t d))
 remembers_kill i e t x d = record {

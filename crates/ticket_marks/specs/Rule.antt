@@ -1,21 +1,21 @@
 -- The rule of the tickets: what holds between any two steps of any seats.
 -- It speaks of the words (`Words`) and of the views of all seats. A view is what is known of a seat in proofs; only the
--- seat's own steps change it, as `Plays` says. Beside its view each seat has a note, a slot of its own in which it writes
--- the edge for which it draws a ticket, since a step of `issued` cannot tell. Notes stand at each 32nd slot, 128 bytes
--- apart, so that seats write theirs without a cache line in common.
-use Rattle.std.specs.Prelude.{◌≡◌, ◌≢◌, ◌⊎◌, ℕ, ◌+◌, ◌*◌, ◌-◌, ◌^◌, ◌<◌, ◌≤◌, Bool, true, false, List, [], ◌∷◌, length, map, slice_index, AllPairs, Contains}
+-- seat's own steps change it, as `Plays` says. Beside its view each seat has a note (`mark_seats`), in which it writes the
+-- edge for which it draws a ticket, since a step of `issued` cannot tell.
+use Rattle.std.specs.Prelude.{◌≡◌, ◌≢◌, ℕ, ◌-◌, ◌^◌, ◌<◌, ◌≤◌, false, List, [], length, map, slice_index, AllPairs, Contains}
 use mathlib.Core.Option.{some}
 use lib.ListN.{get_elem?}
 use Rattle.atomic_table.specs.Table.{State}
 use Rattle.lmt_network.specs.Derivation.{IsDerivation}
 use Rattle.lmt_network.specs.Network.{NetworkParts}
 use Rattle.lmt_network.specs.Numbers.{IsHullNumber, IsMinimalPair, IsOtherSide}
+use Rattle.mark_seats.specs.Seats.{Notes, SeatsHold, total}
 use Rattle.ticket_marks.specs.declared.view.Ranked.{Ranked}
 use Rattle.ticket_marks.specs.declared.view.Drawn.{Drawn}
 use Rattle.ticket_marks.specs.declared.view.Drawn.TheVariants.{NoTicket, Ticket}
 use Rattle.ticket_marks.specs.declared.view.Known.{Known}
 use Rattle.ticket_marks.specs.declared.view.About.{About}
-use Rattle.ticket_marks.specs.Words.{issued, word_count, most_seats}
+use Rattle.ticket_marks.specs.Words.{issued, word_count}
 
 -- the view of the first seat of so many
 abbrev pub first_known : NetworkParts → ℕ → Known
@@ -42,10 +42,6 @@ DrawnHolds n count seen tried NoTicket = Unit {0}
 DrawnHolds n count seen tried (Ticket e t) =
     (t < count) × (e < length n.edges) × (¬ IsHullNumber n e) × Contains tried e × IsBrokenUpTo n seen e t
 
-abbrev pub one_if : Bool → ℕ
-one_if false = 0
-one_if true = 1
-
 -- What the rule says of one view.
 pub record ViewHolds (n : NetworkParts) (ws : List ℕ) (d : Known) : Type 0 where
   pub net_is : d.net ≡ n
@@ -56,32 +52,20 @@ pub record ViewHolds (n : NetworkParts) (ws : List ℕ) (d : Known) : Type 0 whe
   pub tried_once : AllPairs (λ e f. e ≢ f) d.tried
   pub ticket : DrawnHolds n (issued n ws) d.seen d.tried d.drawn
 
--- the sum over all views
-abbrev pub total : (Known → ℕ) → List Known → ℕ
-total f [] = 0
-total f (d ∷ ds) = f d + total f ds
-
 abbrev pub tries : Known → ℕ
 tries d = length d.tried
 
-abbrev pub splits_of : Known → ℕ
-splits_of d = d.splits
+abbrev pub notes_of : Known → Notes
+notes_of d = record { slot = d.slot; splits = d.splits; noted = d.noted }
 
 -- The rule, for the network and the number of seats that the tickets were opened with.
 pub record TicketsHold (k : About) (s : State ℕ Known) : Type 0 where
   pub wide : length s.words ≡ word_count k.net.value
-  pub deep : length s.homes ≡ k.seats * 32
-  pub few : (k.seats ≤ most_seats) × (length k.net.value.edges < 2 ^ 32)
+  pub few : length k.net.value.edges < 2 ^ 32
   -- the marks are a derivation, and none is above the count of tickets
   pub derivation : IsDerivation k.net.value s.words
   pub low : (e : ℕ) → e < length k.net.value.edges → slice_index s.words e ≤ issued k.net.value s.words
   pub each : (j : ℕ) (d : Known) → get_elem? s.views j ≡ some d → ViewHolds k.net.value s.words d
   -- the tickets drawn are the tries of all seats
   pub tickets : issued k.net.value s.words ≡ total tries s.views
-  -- the seats there are, and those that they may still split off, are as many as the tickets were opened with
-  pub seated : length s.views + total splits_of s.views ≡ k.seats
-  -- the notes of the seats that a seat may split off are at home, and its own is until it takes it
-  pub noted : (j : ℕ) (d : Known) → get_elem? s.views j ≡ some d → (d.slot + d.splits < k.seats)
-      × ((i : ℕ) → d.slot + one_if d.noted ≤ i → i ≤ d.slot + d.splits → (y : ℕ) × (get_elem? s.homes (i * 32) ≡ some (some y)))
-  -- the notes of different seats are apart
-  pub apart : (i j : ℕ) (d e : Known) → i ≢ j → get_elem? s.views i ≡ some d → get_elem? s.views j ≡ some e → (d.slot + d.splits < e.slot) ⊎ (e.slot + e.splits < d.slot)
+  pub seating : SeatsHold notes_of k.seats s.homes s.views

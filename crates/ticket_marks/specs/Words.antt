@@ -2,8 +2,7 @@
 -- First stand the marks, a word for each edge: 0 while the edge is live, and its rank once it is killed. Then comes `issued`,
 -- which counts the tickets that were drawn. It stands 16 words, which are 128 bytes, from the words before it and after it,
 -- so that it has no cache line in common with what other threads use.
-use Rattle.std.specs.Prelude.{ℕ, ◌+◌, ◌*◌, ◌/◌, ◌%◌, List, length, slice_index}
-use Rattle.std.specs.Int.{bit_at}
+use Rattle.std.specs.Prelude.{ℕ, ◌+◌, ◌*◌, List, length, slice_index}
 use Rattle.lmt_network.specs.Network.{NetworkParts}
 
 -- the number of the word that counts the tickets
@@ -18,18 +17,6 @@ word_count n = length n.edges + 32
 abbrev pub issued : NetworkParts → List ℕ → ℕ
 issued n ws = slice_index ws (issued_word n)
 
--- the most seats: one for each of 64 workers, and one more
-abbrev pub most_seats : ℕ
-most_seats = 65
-
 -- the most tickets that can be drawn: each seat tries each edge at most once
 abbrev pub most_tickets : NetworkParts → ℕ
 most_tickets n = 65 * length n.edges
-
--- the bit of the edge e among bits, 64 to a word
-abbrev pub bit_of : List ℕ → ℕ → ℕ
-bit_of bits e = bit_at (slice_index bits (e / 64)) (e % 64)
-
--- how many words a bit for each edge takes
-abbrev pub bit_words : NetworkParts → ℕ
-bit_words n = length n.edges / 64 + 1

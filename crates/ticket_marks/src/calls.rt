@@ -9,9 +9,9 @@ ghost use Rattle.ticket_marks.specs.Told.{Remembers};
 ghost use Rattle.ticket_marks.specs.Words.{issued_word, most_tickets};
 
 use crate::answer::{Rank, TicketKill};
-use crate::bits::{is_set, set_bit};
-use crate::handles::{COUNTER_STEP, NOTE_STEP, TicketMarks, TicketSeat};
+use crate::handles::{TicketMarks, TicketSeat};
 use crate::plays::{Draw, See, Store};
+use mark_seats::{COUNTER_STEP, NOTE_STEP, is_set, set_bit};
 
 impl TicketSeat {
     /// How many seats may still be split off.

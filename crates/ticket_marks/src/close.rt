@@ -9,6 +9,7 @@ ghost use Rattle.ticket_marks.specs.Words.{most_tickets};
 use crate::handles::{TicketMarks, TicketSeat};
 use atomic_table::Closed;
 use lmt_network::Ranks;
+use mark_seats::put_away;
 use std::alloc::Global;
 
 // Makes the rank of each edge its mark.
@@ -21,18 +22,6 @@ fn take_marks(closed: &Closed<u32, Global>, ranks: &mut Ranks, count: u32)
     for e in 0..count {
         ranks.set(e, closed.word(e as usize));
     }
-}
-
-// Frees the words and the notes.
-fn put_away(mut closed: Closed<u32, Global>)
-    requires { IsFull closed.slots }
-{
-    let mut i = 0;
-    while i < closed.slot_count() {
-        closed.take(i);
-        i += 1;
-    }
-    closed.free();
 }
 
 impl TicketMarks {

@@ -3,7 +3,8 @@ ghost use Rattle.std.specs.Prelude.{◌≡◌, ◌≢◌, ℕ, ◌<◌, true, fa
 ghost use Rattle.lmt_network.specs.Numbers.{IsMinimalPair, IsOnLeft, IsOnRight};
 ghost use Rattle.ticket_marks.specs.Handles.{IsSameSeat, Belongs};
 ghost use Rattle.ticket_marks.specs.Rule.{edges_seen};
-ghost use Rattle.ticket_marks.specs.Told.{Remembers, Asked, looked_all, FoundLive, AskForSidesOf, AskForSides, HasLiveSides, HasKilledSide, IsLivePair, IsBrokenWith, FoundBy, MakesLoads};
+ghost use Rattle.mark_seats.specs.Supports.{Asked, AskForSidesOf, AskForSides, HasLiveSides, HasKilledSide, IsLivePair, IsBrokenWith};
+ghost use Rattle.ticket_marks.specs.Told.{Remembers, looked_all, FoundLive, FoundBy, MakesLoads};
 
 use crate::answer::{Rank, TicketFound};
 use crate::handles::{TicketMarks, TicketSeat};
@@ -35,8 +36,8 @@ impl TicketMarks {
         requires t_in { t < length self.now.net.tris }
         ensures seat { IsSameSeat seat.old seat.new × Belongs self.now seat.new }
         ensures told { (ls : List Asked) × (seat.new.known ≡ looked_all ls seat.old.known) × AskForSidesOf self.now.net e t ls
-            × (result ≡ true → HasLiveSides self.now.net e t ls)
-            × (result ≡ false → HasKilledSide self.now.net e t seat.new.known.seen) }
+            × (result ≡ true → HasLiveSides self.now.net e t (FoundLive ls))
+            × (result ≡ false → HasKilledSide self.now.net e t (edges_seen seat.new.known.seen)) }
     {
         let sides = net.sides(t);
         for k in 0..sides.len() {
@@ -55,8 +56,8 @@ impl TicketMarks {
         requires on_right { IsOnRight self.now.net e r }
         ensures seat { IsSameSeat seat.old seat.new × Belongs self.now seat.new }
         ensures told { (ls : List Asked) × (seat.new.known ≡ looked_all ls seat.old.known) × AskForSidesOf self.now.net e r ls
-            × (result ≡ true → IsMinimalPair self.now.net e l r × HasLiveSides self.now.net e r ls)
-            × (result ≡ false → IsMinimalPair self.now.net e l r → HasKilledSide self.now.net e r seat.new.known.seen) }
+            × (result ≡ true → IsMinimalPair self.now.net e l r × HasLiveSides self.now.net e r (FoundLive ls))
+            × (result ≡ false → IsMinimalPair self.now.net e l r → HasKilledSide self.now.net e r (edges_seen seat.new.known.seen)) }
     {
         if !self.has_live_sides(net, seat, e, r) {
             return false;
@@ -71,8 +72,8 @@ impl TicketMarks {
         requires on_left { IsOnLeft self.now.net e l }
         ensures seat { IsSameSeat seat.old seat.new × Belongs self.now seat.new }
         ensures told { (ls : List Asked) × (seat.new.known ≡ looked_all ls seat.old.known) × AskForSides self.now.net e ls
-            × IfSome result (λ r. IsLivePair self.now.net e l r ls)
-            × IfNone result (IsBrokenWith self.now.net e l seat.new.known.seen) }
+            × IfSome result (λ r. IsLivePair self.now.net e l r (FoundLive ls))
+            × IfNone result (IsBrokenWith self.now.net e l (edges_seen seat.new.known.seen)) }
     {
         if !self.has_live_sides(net, seat, e, l) {
             return None;

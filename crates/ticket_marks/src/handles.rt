@@ -5,12 +5,6 @@ use lmt_network::Ranks;
 use std::alloc::Global;
 use std::marker::Model;
 
-// Notes stand at each 32nd slot of four bytes, and the counter 16 words of eight bytes from what stands
-// beside it, so that threads write them without a cache line in common.
-pub(crate) const NOTE_STEP: usize = 32;
-
-pub(crate) const COUNTER_STEP: usize = 16;
-
 /// The mark of each edge of a network: 0, or the rank with which it was killed. Threads read it and kill
 /// edges through it, each with a seat of its own, and none waits for another.
 #[derive(Drop)]

@@ -5,7 +5,6 @@
 #![tactic(auto)]
 
 mod answer;
-mod bits;
 mod calls;
 mod close;
 mod examine;

@@ -2,7 +2,7 @@ use Rattle.std.proofs.Common.{ℕ, get_or, sym, subst, arith, below_more}
 use Rattle.std.proofs.lemmas.List.Elements.{Contains-get_or}
 use Rattle.lmt_network.specs.Numbers.{IsMinimalPair}
 use Rattle.ticket_marks.specs.Finish.{HasRankedSide}
-use Rattle.ticket_marks.proofs.Examines.{at_member}
+use Rattle.mark_seats.proofs.Supports.{at_member}
 use Rattle.ticket_marks.proofs.Ranking.{broken_left, broken_right, supported_at}
 use Rattle.ticket_marks.proofs.support.has_partner.Goals as goal
 

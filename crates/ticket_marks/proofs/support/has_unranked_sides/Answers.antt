@@ -1,5 +1,5 @@
 use Rattle.std.proofs.Common.{ℕ, ◌≡◌, get_or, slice_index, List, sym, ◌∙◌, refl, subst, arith, below_more}
-use Rattle.ticket_marks.proofs.Examines.{side_at, at_member}
+use Rattle.mark_seats.proofs.Supports.{side_at, at_member}
 use Rattle.ticket_marks.proofs.support.has_unranked_sides.Goals as goal
 
 pub returns-then-get-ne0-clause-no : goal.returns-then-get-ne0-clause-no

@@ -1,7 +1,7 @@
 use Rattle.std.proofs.Common.{subst, arith, below_more}
 use Rattle.std.proofs.lemmas.List.Elements.{Contains-get_or}
 use Rattle.ticket_marks.specs.Finish.{IsBrokenAt}
-use Rattle.ticket_marks.proofs.Examines.{at_member}
+use Rattle.mark_seats.proofs.Supports.{at_member}
 use Rattle.ticket_marks.proofs.support.is_supported.Goals as goal
 
 pub has_partner-requires-clause-on_left : goal.has_partner-requires-clause-on_left

@@ -3,10 +3,10 @@ use Rattle.std.proofs.lemmas.Bool.{false≢true}
 use Rattle.lmt_network.specs.Network.{NetworkParts}
 use Rattle.lmt_network.specs.Numbers.{IsHullNumber}
 use Rattle.lmt_network.proofs.Picked.{Contains-here}
-use Rattle.edge_marks.specs.Told.{Asked, asked}
+use Rattle.mark_seats.specs.Supports.{Asked, asked}
 use Rattle.edge_marks.proofs.Answering.{look_killed, look_not_killed}
-use Rattle.edge_marks.proofs.Examines.{live_pair_back}
-use Rattle.edge_marks.proofs.Loads.{looked_on, live_one, live_front, tried_of}
+use Rattle.mark_seats.proofs.Supports.{live_pair_back}
+use Rattle.edge_marks.proofs.Loads.{live_front, live_one, looked_on, marks_loaded, tried_of}
 use Rattle.edge_marks.proofs.handles.Marks.is_lone.Goals as goal
 
 pub returns-then-is_hull-clause-told : goal.returns-then-is_hull-clause-told
@@ -20,7 +20,7 @@ pub returns-in-Supported-clause-told : goal.returns-in-Supported-clause-told
 returns-in-Supported-clause-told c = let s = c.look.ensures.step in let t = c.in-Supported.ensures.told in let e = c.args.e in let first : List Asked = asked e s.0 ∷ [] in (
   first ++ t.0,
   looked_on c.args.seat.now.known c.look.new.seat.known c.examine.new.seat.known first t.0 s.2 t.1,
-  (λ _. inr (inr (c.in-Supported.field-0, c.in-Supported.field-1, live_pair_back c.args.self.now.net e c.in-Supported.field-0 c.in-Supported.field-1 first t.0 t.3))),
+  (λ _. inr (inr (c.in-Supported.field-0, c.in-Supported.field-1, live_pair_back marks_loaded c.args.self.now.net e c.in-Supported.field-0 c.in-Supported.field-1 first t.0 t.3))),
   λ h. absurd (false≢true h),
 )
 

@@ -6,7 +6,7 @@ use Rattle.edge_marks.specs.declared.view.Known.{Known}
 use Rattle.edge_marks.specs.Rule.{first_known}
 use Rattle.edge_marks.specs.Plays.{Sitting, noted_view}
 use Rattle.edge_marks.proofs.Blank.{blank_first}
-use Rattle.edge_marks.proofs.Packed.{blank_word}
+use Rattle.mark_seats.proofs.Packed.{blank_word}
 use Rattle.edge_marks.proofs.Seats.{starts, notes}
 use Rattle.edge_marks.proofs.handles.Marks.open.Goals as goal
 
@@ -24,15 +24,17 @@ load-requires c = let e = c.in-Ok.ensures.ok in let w = e.0 in let l = c.as_slic
 pub invariant_of-seat : goal.invariant_of-seat
 invariant_of-seat c =
     record {
-      note = search rules;
-      slot_is = search rules;
-      noted = search rules;
       idle = search rules;
-      splits = search rules;
-      wide = search rules;
-      bits_are = grind (arith, common_steps);
-      blank = search rules;
-      few = search rules;
+      keeps = record {
+        note = search rules;
+        slot_is = search rules;
+        noted = search rules;
+        splits = search rules;
+        wide = search rules;
+        bits_are = grind (arith, common_steps);
+        blank = search rules;
+        few = search rules;
+      };
     }
 
 pub returns-clause-blank : goal.returns-clause-blank

@@ -1,7 +1,7 @@
 use Rattle.std.proofs.Common.{◌≡◌, ◌≢◌, ℕ, [], ◌∷◌, Contains, sym, ap, ◌∙◌, ⊎_elim}
 use Rattle.std.proofs.lemmas.Bool.{false≢true}
 use Rattle.lmt_network.proofs.Picked.{Contains-nil, Contains-cases}
-use Rattle.edge_marks.specs.Told.{Asked, asked}
+use Rattle.mark_seats.specs.Supports.{Asked, asked}
 use Rattle.edge_marks.proofs.Answering.{look_killed, look_live}
 use Rattle.edge_marks.proofs.Loads.{killed_seen, live_one}
 use Rattle.edge_marks.proofs.handles.Marks.passes.Goals as goal

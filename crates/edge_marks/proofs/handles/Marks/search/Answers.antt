@@ -2,8 +2,8 @@ use Rattle.std.proofs.Common.{ℕ, ◌++◌, get_or, sym, ◌∙◌, subst, arit
 use Rattle.std.proofs.lemmas.List.Elements.{Contains-get_or}
 use Rattle.lmt_network.specs.Network.{NetworkParts}
 use Rattle.lmt_network.specs.Numbers.{IsOnLeft}
-use Rattle.edge_marks.proofs.Examines.{ask_both, one_left_broken, all_lefts_broken, live_pair_back}
-use Rattle.edge_marks.proofs.Loads.{looked_on}
+use Rattle.mark_seats.proofs.Supports.{ask_both, one_left_broken, all_lefts_broken, live_pair_back}
+use Rattle.edge_marks.proofs.Loads.{looked_on, marks_loaded}
 use Rattle.edge_marks.proofs.handles.Marks.search.Goals as goal
 
 pub partner-requires-clause-on_left : goal.partner-requires-clause-on_left
@@ -15,16 +15,16 @@ returns-in-Some-clause-told c = let n = c.args.self.now.net in let l : ℕ = get
   so.0 ++ t.0,
   looked_on c.args.seat.now.known c.loop-l.seat.known c.partner.new.seat.known so.0 t.0 so.1 t.1,
   ask_both n c.args.e so.0 t.0 so.2 t.2,
-  live_pair_back n c.args.e l c.in-Some.r so.0 t.0 t.3,
+  live_pair_back marks_loaded n c.args.e l c.in-Some.r so.0 t.0 t.3,
 )
 
 pub loop-l-preserved : goal.loop-l-preserved
 loop-l-preserved c = let n = c.args.self.now.net in let so = c.loop-l.invariant.2 in let t = c.in_default.ensures.told in (
   (c.partner.ensures.seat.0.0 ∙ c.loop-l.invariant.0.0, c.partner.ensures.seat.0.1 ∙ c.loop-l.invariant.0.1),
   c.partner.ensures.seat.1,
-  one_left_broken n c.args.e c.left-l-items.result.now c.args.seat.now.known c.loop-l.seat.known c.partner.new.seat.known c.loop-l.l-index so t.0 t.1 t.2 t.4,
+  one_left_broken marks_loaded n c.args.e c.left-l-items.result.now c.args.seat.now.known c.loop-l.seat.known c.partner.new.seat.known c.loop-l.l-index so t.0 t.1 t.2 t.4,
 )
 
 pub returns-clause-told : goal.returns-clause-told
 returns-clause-told c = let n = c.args.self.now.net in let ls = c.left-l-items.result.now in let so = c.loop-l.invariant.2 in let l = c.loop-l-test.false in
-    (so.0, so.1, so.2, all_lefts_broken n c.args.e ls c.args.seat.now.known c.loop-l.seat.known c.loop-l.l-index so (omega arith) (λ t on. (c.left-l-items.ensures.members t).1 (subst (λ (n : NetworkParts). IsOnLeft n c.args.e t) (sym c.requires.belongs.1) on)))
+    (so.0, so.1, so.2, all_lefts_broken marks_loaded n c.args.e ls c.args.seat.now.known c.loop-l.seat.known c.loop-l.l-index so (omega arith) (λ t on. (c.left-l-items.ensures.members t).1 (subst (λ (n : NetworkParts). IsOnLeft n c.args.e t) (sym c.requires.belongs.1) on)))

@@ -1,10 +1,11 @@
-use Rattle.std.proofs.Common.{◌≡◌, ◌+◌, ◌*◌, ◌<◌, [], ◌∷◌, sym, ap, ◌∙◌, subst, arith}
+use Rattle.std.proofs.Common.{◌≡◌, ◌+◌, ◌*◌, ◌<◌, [], ◌∷◌, refl, sym, ap, ◌∙◌, subst, arith}
+use Rattle.mark_seats.proofs.Keeping.{kept_left, kept_right}
 use Rattle.edge_marks.specs.Handles.{SeatView, IsSeated}
 use Rattle.edge_marks.specs.Plays.{Sitting, left_view, right_view, noted_view}
 use Rattle.edge_marks.specs.Told.{Remembers}
 use Rattle.edge_marks.proofs.Remembering.{remembers_fork}
 use Rattle.edge_marks.proofs.Seats.{notes, splits}
-use Rattle.edge_marks.proofs.Sitters.{meets, seated_left, seated_right}
+use Rattle.edge_marks.proofs.Sitters.{meets}
 use Rattle.edge_marks.proofs.handles.Marks.split.Goals as goal
 
 pub split_seat-place-requires : goal.split_seat-place-requires
@@ -27,11 +28,11 @@ returns-clause-kept c = subst (Remembers c.args.seat.now.known) (sym (ap (λ (m 
 pub invariant_of-seat : goal.invariant_of-seat
 invariant_of-seat c = let row = c.in-Some.ensures in
     subst (λ (m : Sitting). IsSeated m.0 m.1 c.seat.inside.slot c.seat.inside.bits.items c.pop.new.self.items) (sym c.split_seat-place.ensures.2)
-    (seated_left _ _ _ _ _ c.seat.invariant c.pop.new.self.items c.in-Some.bits row.items)
+    record { idle = c.seat.invariant.idle; keeps = kept_left c.seat.invariant.keeps c.pop.new.self.items c.in-Some.bits row.items }
 
 pub invariant_of-result : goal.invariant_of-result
 invariant_of-result c = let row = c.in-Some.ensures in let told = c.load.ensures.2 in
     let is : c.load.new.seat.me ≡ (noted_view (right_view c.seat.inside.place.me.0), ((c.seat.inside.place.me.0.slot + c.seat.inside.place.me.0.splits) * 32, told.0) ∷ []) =
     told.1 ∙ ap (λ (m : Sitting). let v : Sitting = (noted_view m.0, (m.0.slot * 32, told.0) ∷ []) in v) c.split_seat-place.ensures.4 in
     subst (λ (m : Sitting). IsSeated m.0 m.1 (c.seat.inside.slot + c.len.result + 1) c.in-Some.bits.items c.new.result.items) (sym is)
-    (seated_right _ _ _ _ _ c.seat.invariant c.pop.new.self.items c.in-Some.bits row.items told.0 (c.seat.inside.slot + c.len.result + 1) (let l = c.len.ensures in omega arith) c.new.result.items c.new.ensures.items)
+    record { idle = refl; keeps = kept_right c.seat.invariant.keeps c.pop.new.self.items c.in-Some.bits row.items told.0 (c.seat.inside.slot + c.len.result + 1) (let l = c.len.ensures in omega arith) c.new.result.items c.new.ensures.items }

@@ -3,26 +3,28 @@ use Rattle.lmt_network.specs.Network.{NetworkParts}
 use Rattle.lmt_network.specs.Numbers.{IsHullNumber, IsBroken}
 use Rattle.lmt_network.proofs.Picked.{Contains-here}
 use Rattle.ticket_marks.specs.declared.view.Known.{Known}
-use Rattle.ticket_marks.specs.Handles.{SeatView, TicketsView, IsSeated, note_of}
+use Rattle.mark_seats.specs.Keeping.{note_of}
+use Rattle.ticket_marks.specs.Handles.{SeatView, TicketsView, IsSeated}
 use Rattle.ticket_marks.specs.Plays.{Sitting, now_mark, drawn_view, killed_view}
 use Rattle.ticket_marks.specs.Rule.{ranked, edges_seen}
 use Rattle.ticket_marks.specs.Told.{Remembers}
 use Rattle.ticket_marks.proofs.Kills.{draws_at, stores}
 use Rattle.ticket_marks.proofs.Remembering.{remembers_kill}
-use Rattle.ticket_marks.proofs.Sitters.{meets, stays, note_alone, note_written, seated_killed, killed_told}
+use Rattle.mark_seats.proofs.Keeping.{note_alone, note_written, kept_tried}
+use Rattle.ticket_marks.proofs.Sitters.{meets, stays, killed_told}
 use Rattle.ticket_marks.proofs.handles.TicketMarks.kill.Goals as goal
 
 pub exchange-requires : goal.exchange-requires
 exchange-requires c = let p = c.seat.inside in let h = c.seat.invariant in (
   (meets _ _ _ _ c.seat.view_is c.self.view_is c.requires.belongs).0,
-  (note_of p.place.me.1, h.note ∙ sym (note_alone _ _ _ _ _ h (note_of p.place.me.1))),
+  (note_of p.place.me.1, h.keeps.note ∙ sym (note_alone h.keeps (note_of p.place.me.1))),
 )
 
 pub fetch_add-ticket-requires : goal.fetch_add-ticket-requires
 fetch_add-ticket-requires c = let m = meets _ _ _ _ c.seat.view_is c.self.view_is c.requires.belongs in let h = c.seat.invariant in let i = c.self.invariant in let i₀ = i.0 in let i₁ = i.1 in let e = c.args.e in
     let n = ap (λ (v : TicketsView). length v.net.edges) c.self.view_is in let b = c.issued-issued.ensures.value in
     let net = ap (λ (v : TicketsView). v.net) c.self.view_is in let known = ap (λ (v : SeatView). v.known) c.seat.view_is in
-    let now = note_written _ _ _ _ _ h e c.exchange.new.seat.me c.exchange.ensures.3 in let view = ap (λ (m : Sitting). m.0) now ∙ known in (
+    let now = note_written h.keeps c.seat.inside.place.me.0 e c.exchange.new.seat.me c.exchange.ensures.3 in let view = ap (λ (m : Sitting). m.0) now ∙ known in (
       c.exchange.ensures.0 ∙ m.0,
       omega arith,
       draws_at c.self.inside.table.shared.key _ _ c.exchange.new.seat.me _ (c.seat.inside.slot * 32) e (omega arith) (ap (λ (m : Sitting). m.1) now)
@@ -35,7 +37,7 @@ fetch_add-ticket-requires c = let m = meets _ _ _ _ c.seat.view_is c.self.view_i
 pub compare_exchange-mark-requires : goal.compare_exchange-mark-requires
 compare_exchange-mark-requires c = let m = meets _ _ _ _ c.seat.view_is c.self.view_is c.requires.belongs in let i = c.self.invariant in let i₀ = i.0 in let i₁ = i.1 in
     let n = ap (λ (v : TicketsView). length v.net.edges) c.self.view_is in let low = c.requires.inside in
-    let now = note_written _ _ _ _ _ c.seat.invariant c.args.e c.exchange.new.seat.me c.exchange.ensures.3 in
+    let now = note_written c.seat.invariant.keeps c.seat.inside.place.me.0 c.args.e c.exchange.new.seat.me c.exchange.ensures.3 in
     let next = (c.fetch_add-ticket.ensures.2 (c.seat.inside.slot * 32) c.args.e (ap (λ (m : Sitting). m.1) now)).0 in (
       c.fetch_add-ticket.ensures.0 ∙ (c.exchange.ensures.0 ∙ m.0),
       omega arith,
@@ -50,7 +52,7 @@ room d slot i e t E m₁ m₂ is drew wide =
 
 pub overflow_add-ticket : goal.overflow_add-ticket
 overflow_add-ticket c =
-    let now = note_written _ _ _ _ _ c.seat.invariant c.args.e c.exchange.new.seat.me c.exchange.ensures.3 in
+    let now = note_written c.seat.invariant.keeps c.seat.inside.place.me.0 c.args.e c.exchange.new.seat.me c.exchange.ensures.3 in
     let most = room c.seat.inside.place.me.0 (c.seat.inside.slot * 32) c.issued-issued.result c.args.e c.fetch_add-ticket.result (length c.args.self.now.net.edges) c.exchange.new.seat.me c.fetch_add-ticket.new.seat.me now c.fetch_add-ticket.ensures.2
     (ap (λ (v : SeatView). length v.known.net.edges) c.seat.view_is ∙ ap (λ (n : NetworkParts). length n.edges) c.requires.belongs.1) in
     let issued = c.issued-issued.ensures.value in
@@ -59,7 +61,7 @@ overflow_add-ticket c =
 
 pub of-requires : goal.of-requires
 of-requires c =
-    let now = note_written _ _ _ _ _ c.seat.invariant c.args.e c.exchange.new.seat.me c.exchange.ensures.3 in
+    let now = note_written c.seat.invariant.keeps c.seat.inside.place.me.0 c.args.e c.exchange.new.seat.me c.exchange.ensures.3 in
     let most = room c.seat.inside.place.me.0 (c.seat.inside.slot * 32) c.issued-issued.result c.args.e c.fetch_add-ticket.result (length c.args.self.now.net.edges) c.exchange.new.seat.me c.fetch_add-ticket.new.seat.me now c.fetch_add-ticket.ensures.2
     (ap (λ (v : SeatView). length v.known.net.edges) c.seat.view_is ∙ ap (λ (n : NetworkParts). length n.edges) c.requires.belongs.1) in
     let issued = c.issued-issued.ensures.value in
@@ -68,7 +70,7 @@ of-requires c =
 
 -- the seat after the kill
 after : (c : goal.After-of) → c.compare_exchange-mark.new.seat.me ≡ (killed_view c.args.e c.fetch_add-ticket.result c.compare_exchange-mark.result (drawn_view c.issued-issued.result c.args.e c.fetch_add-ticket.result c.seat.inside.place.me.0), (c.seat.inside.slot * 32, c.args.e) ∷ [])
-after c = let now = note_written _ _ _ _ _ c.seat.invariant c.args.e c.exchange.new.seat.me c.exchange.ensures.3 in
+after c = let now = note_written c.seat.invariant.keeps c.seat.inside.place.me.0 c.args.e c.exchange.new.seat.me c.exchange.ensures.3 in
     killed_told c.seat.inside.place.me.0 (c.seat.inside.slot * 32) c.issued-issued.result c.args.e c.fetch_add-ticket.result c.compare_exchange-mark.result c.exchange.new.seat.me c.fetch_add-ticket.new.seat.me c.compare_exchange-mark.new.seat.me now c.fetch_add-ticket.ensures.2 c.compare_exchange-mark.ensures.2
 
 -- what a caller sees of it
@@ -78,7 +80,7 @@ known_after c = ap (λ (m : Sitting). m.0) (after c)
 
 pub invariant_of-seat : goal.invariant_of-seat
 invariant_of-seat c = subst (λ (m : Sitting). IsSeated m.0 m.1 c.seat.inside.slot c.set_bit.new.bits.items c.seat.inside.spare.items) (sym (after c))
-    (seated_killed _ _ _ _ _ c.seat.invariant c.issued-issued.result c.args.e c.fetch_add-ticket.result c.compare_exchange-mark.result c.args.e c.set_bit.new.bits.items c.set_bit.ensures.count c.set_bit.ensures.here c.set_bit.ensures.others)
+    record { idle = refl; keeps = kept_tried c.seat.invariant.keeps c.args.e c.args.e c.set_bit.new.bits.items c.set_bit.ensures.count c.set_bit.ensures.here c.set_bit.ensures.others }
 
 pub returns-clause-kept : goal.returns-clause-kept
 returns-clause-kept c = subst (Remembers c.args.seat.now.known) (sym (known_after c)) (remembers_kill (length c.args.self.now.net.edges + 16) c.args.e c.fetch_add-ticket.result c.compare_exchange-mark.result c.args.seat.now.known)
@@ -91,7 +93,7 @@ returns-clause-steps c = let t = c.fetch_add-ticket.result in let x = c.compare_
   t,
   x,
   c.of.ensures,
-  (let now = note_written _ _ _ _ _ c.seat.invariant c.args.e c.exchange.new.seat.me c.exchange.ensures.3 in
+  (let now = note_written c.seat.invariant.keeps c.seat.inside.place.me.0 c.args.e c.exchange.new.seat.me c.exchange.ensures.3 in
       room c.seat.inside.place.me.0 (c.seat.inside.slot * 32) c.issued-issued.result c.args.e t (length c.args.self.now.net.edges) c.exchange.new.seat.me c.fetch_add-ticket.new.seat.me now c.fetch_add-ticket.ensures.2
       (ap (λ (v : SeatView). length v.known.net.edges) c.seat.view_is ∙ ap (λ (n : NetworkParts). length n.edges) c.requires.belongs.1)),
   subst (λ (d : Known). Contains d.seen (ranked c.args.e (now_mark t x))) (sym (known_after c)) (Contains-here (ranked c.args.e (now_mark t x)) c.args.seat.now.known.seen),

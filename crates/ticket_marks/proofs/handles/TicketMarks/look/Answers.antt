@@ -9,7 +9,7 @@ use Rattle.ticket_marks.specs.Told.{Remembers}
 use Rattle.ticket_marks.proofs.Answering.{rank_killed}
 use Rattle.ticket_marks.proofs.Looks.{looks}
 use Rattle.ticket_marks.proofs.Remembering.{remembers_look}
-use Rattle.ticket_marks.proofs.Sitters.{meets, stays, seated_looked}
+use Rattle.ticket_marks.proofs.Sitters.{meets, stays}
 use Rattle.ticket_marks.proofs.handles.TicketMarks.look.Goals as goal
 
 pub load-mark-requires : goal.load-mark-requires
@@ -18,7 +18,7 @@ load-mark-requires c = let i = c.self.invariant in let i₀ = i.0 in let i₁ = 
     ((meets _ _ _ _ c.seat.view_is c.self.view_is c.requires.belongs).0, omega arith, looks c.self.inside.table.shared.key _ _ c.seat.inside.place.me c.args.e low)
 
 pub invariant_of-seat : goal.invariant_of-seat
-invariant_of-seat c = subst (λ (m : Sitting). IsSeated m.0 m.1 c.seat.inside.slot c.seat.inside.bits.items c.seat.inside.spare.items) (sym c.load-mark.ensures.2.0) (seated_looked _ _ _ _ _ c.seat.invariant c.args.e c.load-mark.result)
+invariant_of-seat c = subst (λ (m : Sitting). IsSeated m.0 m.1 c.seat.inside.slot c.seat.inside.bits.items c.seat.inside.spare.items) (sym c.load-mark.ensures.2.0) record { idle = c.seat.invariant.idle; keeps = c.seat.invariant.keeps }
 
 pub returns-clause-seat : goal.returns-clause-seat
 returns-clause-seat c = stays _ _ c.args.self.now _ _ _ c.seat.view_is c.requires.belongs c.load-mark.ensures.0 c.load-mark.ensures.1 (ap (λ (m : Sitting). m.0.net) c.load-mark.ensures.2.0)

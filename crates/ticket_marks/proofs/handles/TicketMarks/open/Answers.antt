@@ -3,7 +3,7 @@ use lib.ListN.{length-replicate}
 use Rattle.std.proofs.lemmas.Grind.{common_steps}
 use Rattle.ticket_marks.specs.declared.view.About.{About}
 use Rattle.ticket_marks.specs.Plays.{Sitting}
-use Rattle.ticket_marks.proofs.Packed.{blank_word}
+use Rattle.mark_seats.proofs.Packed.{blank_word}
 use Rattle.ticket_marks.proofs.Seats.{starts, notes}
 use Rattle.ticket_marks.proofs.handles.TicketMarks.open.Goals as goal
 
@@ -21,13 +21,15 @@ load-requires c = let e = c.in-Ok.ensures.ok in let w = e.0 in let l = c.as_slic
 pub invariant_of-seat : goal.invariant_of-seat
 invariant_of-seat c =
     record {
-      note = search rules;
-      slot_is = search rules;
-      noted = search rules;
       idle = search rules;
-      splits = search rules;
-      wide = search rules;
-      bits_are = grind (arith, common_steps);
-      blank = search rules;
-      few = search rules;
+      keeps = record {
+        note = search rules;
+        slot_is = search rules;
+        noted = search rules;
+        splits = search rules;
+        wide = search rules;
+        bits_are = grind (arith, common_steps);
+        blank = search rules;
+        few = search rules;
+      };
     }

@@ -1,6 +1,7 @@
 use Rattle.ticket_marks.specs.Handles.{IsSameSeat, Belongs}
-use Rattle.ticket_marks.proofs.Examines.{RightsBroken}
+use Rattle.mark_seats.proofs.Supports.{RightsBroken}
+use Rattle.ticket_marks.proofs.Loads.{ranks_loaded}
 use Rattle.ticket_marks.proofs.handles.TicketMarks.partner.Given as goal
 
 abbrev pub invariant-loop-r : goal.invariant-loop-r
-invariant-loop-r l = IsSameSeat l.initial.seat l.seat × Belongs l.self l.seat × RightsBroken l.self.net l.e l.l l.r-items l.initial.seat.known l.seat.known l.r-index
+invariant-loop-r l = IsSameSeat l.initial.seat l.seat × Belongs l.self l.seat × RightsBroken ranks_loaded l.self.net l.e l.l l.r-items l.initial.seat.known l.seat.known l.r-index

@@ -1,7 +1,7 @@
 use Rattle.std.proofs.Common.{◌≡◌, ◌≢◌, ℕ, [], ◌∷◌, Contains, sym, ap, ◌∙◌, ⊎_elim}
 use Rattle.std.proofs.lemmas.Bool.{false≢true}
 use Rattle.lmt_network.proofs.Picked.{Contains-nil, Contains-cases}
-use Rattle.ticket_marks.specs.Told.{Asked, asked}
+use Rattle.mark_seats.specs.Supports.{Asked, asked}
 use Rattle.ticket_marks.proofs.Answering.{rank_killed, rank_live}
 use Rattle.ticket_marks.proofs.Loads.{killed_seen, live_one}
 use Rattle.ticket_marks.proofs.handles.TicketMarks.passes.Goals as goal

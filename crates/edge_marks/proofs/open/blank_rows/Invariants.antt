@@ -1,5 +1,0 @@
-use Rattle.std.proofs.Common.{◌≡◌, length, replicate, All}
-use Rattle.edge_marks.proofs.open.blank_rows.Given as goal
-
-abbrev pub invariant-fill : goal.invariant-fill
-invariant-fill l = (length l.rows.items ≡ l.counter) × All (λ r. r.items ≡ replicate l.len 0) l.rows.items

@@ -1,0 +1,7 @@
+pub mod Apart
+pub mod Keeping
+pub mod Members
+pub mod Packed
+pub mod Seating
+pub mod Supports
+pub mod Totals
