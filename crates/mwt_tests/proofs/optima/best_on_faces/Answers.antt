@@ -16,9 +16,9 @@ faces-requires g c =
     let skeleton = c.in-Ok-skeleton.skeleton in
     let e = c.in_ok-net.ensures.network in
     let candidates : AreCandidates net.points net.hull Off net.edges =
-        subst (λ (ps : List Point). AreCandidates ps net.hull Off net.edges) (sym e.points_are)
-            (subst (λ (hull : List ℕ). AreCandidates c.in_ok-points.points.points hull Off net.edges) (sym e.hull_is) e.candidates) in
+    subst (λ (ps : List Point). AreCandidates ps net.hull Off net.edges) (sym e.points_are)
+    (subst (λ (hull : List ℕ). AreCandidates c.in_ok-points.points.points hull Off net.edges) (sym e.hull_is) e.candidates) in
     let live = c.in-Ok.ensures.live_edges Off candidates in
     subst (λ (ps : List Point). AreClear ps skeleton) e.points_are
     (AreClear-skeleton net.points net.hull Off edges skeleton live.closed.candidates
-        (subst (λ (ps : List Point). AreSkeleton ps edges skeleton) (sym e.points_are) c.in-Ok-skeleton.ensures.skeleton))
+    (subst (λ (ps : List Point). AreSkeleton ps edges skeleton) (sym e.points_are) c.in-Ok-skeleton.ensures.skeleton))
