@@ -11,6 +11,5 @@ pub mod Looks
 pub mod Passes
 pub mod Remembering
 pub mod Seats
-pub mod Sides
 pub mod Sitters
 pub mod Views

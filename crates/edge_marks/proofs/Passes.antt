@@ -19,7 +19,7 @@ use Rattle.mark_seats.specs.Bits.{bit_in}
 use Rattle.edge_marks.specs.Words.{mark_of}
 use Rattle.edge_marks.specs.Rule.{finished, unkilled, ArePresent, PassHolds, WasLive, WasKilled, HadSupport, AreJudged, MarksHold}
 use Rattle.edge_marks.specs.Plays.{Sitting, opened_view, opened, compared, compared_view, read_finished, has_begun_with, settled_view, settled}
-use Rattle.edge_marks.proofs.Sides.{other_side_in}
+use Rattle.mark_seats.proofs.Sides.{other_side_in}
 use Rattle.edge_marks.proofs.Views.{contains_unkilled, unkilled_contains}
 use Rattle.edge_marks.proofs.Kept.{net, load_kept, begun_bounded}
 

@@ -3,5 +3,6 @@ pub mod Keeping
 pub mod Members
 pub mod Packed
 pub mod Seating
+pub mod Sides
 pub mod Supports
 pub mod Totals

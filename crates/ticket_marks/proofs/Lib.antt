@@ -8,6 +8,5 @@ pub mod Ranking
 pub mod Remembering
 pub mod Seats
 pub mod SeenRanks
-pub mod Sides
 pub mod Sitters
 pub mod Views

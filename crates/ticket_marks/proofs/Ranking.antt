@@ -14,7 +14,7 @@ use Rattle.lmt_network.proofs.NumberLaws.{live_if_closed}
 use Rattle.lmt_network.proofs.Passes.{in_turn, turn_of}
 use Rattle.lmt_network.proofs.Picked.{All-from_members, flag_in, live_from_flag, flag_from_live}
 use Rattle.ticket_marks.specs.Finish.{unranked, left_over, HasRankedSide, HasUnrankedSides, IsBrokenAt, AreRanksUpTo, RanksStand}
-use Rattle.ticket_marks.proofs.Sides.{other_side_in}
+use Rattle.mark_seats.proofs.Sides.{other_side_in}
 use Rattle.ticket_marks.proofs.Views.{derivation_more}
 
 -- the edges with the rank 0

@@ -11,7 +11,7 @@ use Rattle.ticket_marks.specs.declared.view.Drawn.TheVariants.{NoTicket, Ticket}
 use Rattle.ticket_marks.specs.declared.view.Known.{Known}
 use Rattle.ticket_marks.specs.Rule.{DrawnHolds, ViewHolds}
 use Rattle.ticket_marks.specs.Words.{issued}
-use Rattle.ticket_marks.proofs.Sides.{other_side_in}
+use Rattle.mark_seats.proofs.Sides.{other_side_in}
 
 -- ranks that are the same are a derivation too
 pub derivation_same : (n : NetworkParts) (ranks more : List ℕ) → ((e : ℕ) → e < length n.edges → slice_index more e ≡ slice_index ranks e) → IsDerivation n ranks → IsDerivation n more
