@@ -1,0 +1,5 @@
+mod Drawing
+mod Joining
+mod Pieces
+mod Rules
+mod Searching

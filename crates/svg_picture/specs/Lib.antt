@@ -1,0 +1,4 @@
+pub mod Draws
+pub mod Edges
+pub mod Frames
+pub mod Picture
