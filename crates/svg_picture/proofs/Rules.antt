@@ -65,7 +65,7 @@ block_rule word low end says may_follow p =
 version_by_rule : (line : List ℕ) → HasRule (version_by line)
 version_by_rule line = by (bytes_eq line (codes "mwt 1")) (bytes_eq line (codes "mwt 2"))
   where
-    by : (a b : Bool) → HasRule (cond a (Ok 1) (cond b (Ok 2) (Err (record { code = 30; line = 1 }))))
+    by : (a b : Bool) → HasRule {X = ℕ} (cond a (Ok 1) (cond b (Ok 2) (Err (record { code = 30; line = 1 }))))
     by true b = tt
     by false true = tt
     by false false = record { least = omega arith; most = omega arith }

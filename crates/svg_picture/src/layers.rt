@@ -142,7 +142,12 @@ pub fn write_edges(
 }
 
 /// The layer of the hull.
-pub fn write_hull(text: &mut Vec<u8>, look: Look, spots: &[Spot], hull: &[u32]) -> Result<(), AllocError>
+pub fn write_hull(
+    text: &mut Vec<u8>,
+    look: Look,
+    spots: &[Spot],
+    hull: &[u32],
+) -> Result<(), AllocError>
     requires { All (λ u. u < length spots.now) hull.now }
     ensures { OnOk result (Grows text.old.items text.new.items (layer (codes "hull") look.colour.now look.thickness
         (codes "M" ∷ (map (λ u. spot_text (spot_at spots.now u)) hull.now ++ codes "z" ∷ [])))) }

@@ -5,17 +5,17 @@
 mod answer;
 mod edges;
 mod frame;
-mod layers;
 mod laws;
+mod layers;
 mod picture;
 mod refusal;
 mod side_set;
 mod text;
 mod top;
 
-pub use top::draw;
 pub use laws::refused_alike_law;
 pub use picture::write_picture;
+pub use top::draw;
 
 #[cfg(test)]
 mod tests;

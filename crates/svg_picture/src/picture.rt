@@ -72,11 +72,7 @@ fn write_edge_layers(
 }
 
 // The hull and the points.
-fn write_point_layers(
-    text: &mut Vec<u8>,
-    spots: &[Spot],
-    report: &Report,
-) -> Result<(), AllocError>
+fn write_point_layers(text: &mut Vec<u8>, spots: &[Spot], report: &Report) -> Result<(), AllocError>
     requires { All (λ u. u < length spots.now) report.now.hull }
     ensures { OnOk result (Grows text.old.items text.new.items (point_layers spots.now report.now)) }
 {

@@ -13,12 +13,7 @@ use std::alloc::Global;
 /// program's name: none is taken.
 ///
 /// What it means to write is stated in `specs/Draws.antt`. All memory is taken before the first write.
-pub fn draw<S: Source, K: Sink>(
-    alloc: Global,
-    words: usize,
-    source: &mut S,
-    sink: &mut K,
-) -> Status
+pub fn draw<S: Source, K: Sink>(alloc: Global, words: usize, source: &mut S, sink: &mut K) -> Status
     // With an answer: the picture or the refusal that these words and this input are to have was written.
     ensures said { IsAnswer result →
         Says words (S.left source.old) result (K.written sink.old) (K.written sink.new) }
