@@ -1,5 +1,6 @@
 //! Runs `mwt` over each case of its folder: a file that ends in `.case` and holds words, a status, an
-//! input, and the text that is wanted. It prints the name of each case that failed, and how many passed.
+//! input, and the text that is wanted. Where the first word is `draw` it draws, as the launcher does. It
+//! prints the name of each case that failed, and how many passed.
 #![tactic(auto)]
 
 mod case;
@@ -10,6 +11,7 @@ use mwt_tool::run_in_memory;
 use std::rt::Files;
 use std::thread::Threads;
 use std::{fs, io};
+use svg_picture::draw;
 
 // Room for the text of an answer; what is longer fails its case.
 const ROOM: usize = 1 << 20;
@@ -58,6 +60,11 @@ fn passes(rt: &(impl Threads + Sync + Files + AllocGlobal), name: &str) -> io::R
     let Ok(mut sink) = SureSink::new(alloc, ROOM) else {
         return Ok(false);
     };
-    let status = run_in_memory(rt, alloc, &words, &mut source, &mut sink, &OpenGate);
+    let status = match words.split_first() {
+        Some((word, others)) if word.as_str() == "draw" => {
+            draw(alloc, others.len(), &mut source, &mut sink)
+        }
+        _ => run_in_memory(rt, alloc, &words, &mut source, &mut sink, &OpenGate),
+    };
     Ok(case.wants(status, sink.bytes()))
 }
