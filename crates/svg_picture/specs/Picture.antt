@@ -1,5 +1,5 @@
 -- The picture of a report: SVG 1.1, line by line. What is drawn later hides what lies below it.
-use Rattle.std.specs.Prelude.{ℕ, List, [], ◌∷◌, ◌++◌, map, codes, decimal, slice_index_or}
+use Rattle.std.specs.Prelude.{ℕ, Bool, List, [], ◌∷◌, ◌++◌, length, map, codes, decimal, slice_index_or, nat_lt, if◌then◌else◌}
 use Rattle.exact_predicates.specs.declared.point.Point.{Point}
 use Rattle.cert_text.specs.declared.report.Report.{Report}
 use Rattle.cert_text.specs.Texts.{lines_text}
@@ -72,18 +72,29 @@ paper = codes "<rect id='paper' width='100%' height='100%' fill='#fff'/>"
 unfoldable pub head_lines : Frame → List (List ℕ)
 head_lines f = (svg_start ++ measures f ++ svg_style) ∷ paper ∷ []
 
+-- more than a thousand points leave no room for thick strokes
+abbrev pub is_crowded : Report → Bool
+is_crowded r = nat_lt 1000 (length r.points)
+
+-- how wide strong strokes are, and dots
+abbrev pub stroke_width : Report → ℕ
+stroke_width r = if is_crowded r then 1 else 2
+
+abbrev pub dot_width : Report → ℕ
+dot_width r = if is_crowded r then 2 else 5
+
 -- the live edges that are in neither of the other two, the triangulation, and the skeleton
 abbrev pub edge_layers : List Spot → Report → List (List ℕ)
 edge_layers spots r =
     layer (codes "live") (codes "#ccc") 1 (map (stroke spots) (other_edges r))
     ++ (layer (codes "triangulation") (codes "#37c") 1 (map (stroke spots) (edges_once (tri_sides r)))
-    ++ layer (codes "skeleton") (codes "#222") 2 (map (stroke spots) (skeleton_edges r)))
+    ++ layer (codes "skeleton") (codes "#222") (stroke_width r) (map (stroke spots) (skeleton_edges r)))
 
 -- the hull, once round, and the points
 abbrev pub point_layers : List Spot → Report → List (List ℕ)
 point_layers spots r =
-    layer (codes "hull") (codes "#c22") 2 (codes "M" ∷ (map (λ u. spot_text (spot_at spots u)) r.hull ++ codes "z" ∷ []))
-    ++ layer (codes "points") (codes "#000") 5 (map dot spots)
+    layer (codes "hull") (codes "#c22") (stroke_width r) (codes "M" ∷ (map (λ u. spot_text (spot_at spots u)) r.hull ++ codes "z" ∷ []))
+    ++ layer (codes "points") (codes "#000") (dot_width r) (map dot spots)
 
 -- where the points of a report stand
 abbrev pub spots_of : Report → List Spot

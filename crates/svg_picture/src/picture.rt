@@ -2,7 +2,7 @@
 ghost use Rattle.std.specs.Prelude.{◌≡◌, ◌<◌, All, IfOk, OnOk, length};
 ghost use Rattle.cert_text.specs.Texts.{Grows};
 ghost use Rattle.cert_text.specs.Within.{IsWithin};
-ghost use Rattle.svg_picture.specs.Picture.{edge_layers, picture_text, point_layers};
+ghost use Rattle.svg_picture.specs.Picture.{dot_width, edge_layers, picture_text, point_layers, stroke_width};
 
 use crate::edges::Drawn;
 use crate::frame::{Frame, Spot};
@@ -22,20 +22,30 @@ const THIN: Look = Look {
     thickness: 1,
 };
 
-const STRONG: Look = Look {
-    colour: "#222",
-    thickness: 2,
-};
+// The most points between which there is room for thick strokes.
+const MOST_ROOMY: u32 = 1000;
 
-const RIM: Look = Look {
-    colour: "#c22",
-    thickness: 2,
-};
+// How wide strong strokes are.
+fn stroke_width(report: &Report) -> u64
+    ensures { result ≡ stroke_width report.now }
+{
+    if report.points.len() > MOST_ROOMY {
+        1
+    } else {
+        2
+    }
+}
 
-const DOTS: Look = Look {
-    colour: "#000",
-    thickness: 5,
-};
+// How wide dots are.
+fn dot_width(report: &Report) -> u64
+    ensures { result ≡ dot_width report.now }
+{
+    if report.points.len() > MOST_ROOMY {
+        2
+    } else {
+        5
+    }
+}
 
 /// The text of the picture. `NoMemory` is the only error.
 pub fn write_picture(alloc: Global, report: &Report) -> Result<Vec<u8>, NoMemory>
@@ -65,9 +75,13 @@ fn write_edge_layers(
     ensures { OnOk result (Grows text.old.items text.new.items (edge_layers spots.now report.now)) }
 {
     let drawn = Drawn::of(alloc, report)?;
+    let strong = Look {
+        colour: "#222",
+        thickness: stroke_width(report),
+    };
     write_edges(text, "live", FAINT, spots, &drawn.others)?;
     write_edges(text, "triangulation", THIN, spots, &drawn.triangulation)?;
-    write_edges(text, "skeleton", STRONG, spots, &drawn.skeleton)?;
+    write_edges(text, "skeleton", strong, spots, &drawn.skeleton)?;
     Ok(())
 }
 
@@ -76,7 +90,15 @@ fn write_point_layers(text: &mut Vec<u8>, spots: &[Spot], report: &Report) -> Re
     requires { All (λ u. u < length spots.now) report.now.hull }
     ensures { OnOk result (Grows text.old.items text.new.items (point_layers spots.now report.now)) }
 {
-    write_hull(text, RIM, spots, report.hull.as_slice())?;
-    write_points(text, DOTS, spots)?;
+    let rim = Look {
+        colour: "#c22",
+        thickness: stroke_width(report),
+    };
+    let dots = Look {
+        colour: "#000",
+        thickness: dot_width(report),
+    };
+    write_hull(text, rim, spots, report.hull.as_slice())?;
+    write_points(text, dots, spots)?;
     Ok(())
 }
