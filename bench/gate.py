@@ -1,8 +1,8 @@
 #!/usr/bin/env python3
 # Runs the gate, `rt ci`, with the words that are given, passes on what it prints, and then says where its time went: when
-# each crate and its tests were proved, how long the edits of each crate took, the twenty edits that were waited for longest,
-# and how long tests and programs ran. All in seconds after the start, since the gate works on several things at one time and
-# prints what it did when it has done it. It ends with the gate's status. Usage: bench/gate.py [WORD..]
+# each crate and its tests were proved, when the edits of each crate were begun, and when tests and programs had run. All in
+# seconds after the start, since the gate works on several things at one time. What it prints of single edits comes at its
+# end, so that their own times are not known. It ends with the gate's status. Usage: bench/gate.py [WORD..]
 import re
 import subprocess
 import sys
@@ -18,8 +18,8 @@ for line in gate.stdout:
     print(line, end="", flush=True)
     if found := re.match(r"rt: (\w+)(: its tests are)? proved$", line):
         proved.append((now, found[1] + (", its tests" if found[2] else "")))
-    elif found := re.match(r"rt: must-fail (\w+)/(\w+)\.edit", line):
-        edits.append((now, found[1], found[2]))
+    elif found := re.match(r"rt: (\w+): trying its must-fail edits \((\d+)\)", line):
+        edits.append((now, f"{found[2]:>4} {found[1]}"))
     elif found := re.match(r"rt: (\w+) ran|rt: (\w+): its tests passed", line):
         ran.append((now, found[1] or found[2] + ", its tests"))
 status = gate.wait()
@@ -28,19 +28,9 @@ print(f"\nthe gate took {time.monotonic() - start:.0f} seconds")
 print("\nproved after")
 for now, name in proved:
     print(f"{now:8.0f} {name}")
-# An edit was waited for since the one before it of its crate was refused.
-waits, last = [], {}
-for now, crate, edit in edits:
-    if crate in last:
-        waits.append((now - last[crate], f"{crate}/{edit}"))
-    last[crate] = now
-print("\nedits: first and last refused after, how many")
-for crate in last:
-    times = [now for now, name, _ in edits if name == crate]
-    print(f"{min(times):8.0f} {max(times):8.0f} {len(times):4} {crate}")
-print("\nthe edits that were waited for longest")
-for wait, name in sorted(waits, reverse=True)[:20]:
-    print(f"{wait:8.0f} {name}")
+print("\nedits begun after, how many")
+for now, name in edits:
+    print(f"{now:8.0f} {name}")
 print("\nran after")
 for now, name in ran:
     print(f"{now:8.0f} {name}")
