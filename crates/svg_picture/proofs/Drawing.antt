@@ -1,6 +1,6 @@
 -- From what was read to what is drawn: one lemma a row.
-use Rattle.std.proofs.Common.{◌≡◌, ◌≢◌, ℕ, ◌+◌, ◌<◌, ◌≤◌, List, [], ◌++◌, length, refl, sym, arith, length-append, subst, ap, ◌∙◌}
-use Rattle.std.specs.Prelude.{None, Some, Ok, Err}
+use Rattle.std.proofs.Common.{◌≡◌, ℕ, ◌<◌, ◌≤◌, List, [], ◌++◌, length, refl, sym, arith, length-append, subst}
+use Rattle.std.specs.Prelude.{None, Some}
 use Rattle.std.specs.declared.option.Option.{Option}
 use Rattle.mwt_base.specs.Limits.{most_bytes}
 use Rattle.mwt_base.specs.Told.{IsTold, ReadToEnd, TookMore}
@@ -8,7 +8,6 @@ use Rattle.mwt_base.specs.declared.status.Status.{Status}
 use Rattle.mwt_base.specs.declared.status.Status.TheVariants.{Done, Refused}
 use Rattle.cert_text.specs.declared.report.Report.{Report}
 use Rattle.cert_text.specs.Texts.{report_text}
-use Rattle.cert_text.specs.Whole.{report_of}
 use Rattle.cert_text.specs.Within.{IsWithin}
 use Rattle.cert_text.proofs.ReportSizes.{report_short}
 use Rattle.cert_text.proofs.Reports.{whole_found}

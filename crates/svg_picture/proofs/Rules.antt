@@ -2,15 +2,15 @@
 use Rattle.std.proofs.Common.{◌≡◌, ℕ, zero, suc, ◌+◌, ◌^◌, Bool, true, false, cond, List, length, Option, Some, None, Result, Ok, Err, codes, ◌==◌, bytes_eq, arith, subst}
 use Rattle.std.specs.Prelude.{⊤}
 use Rattle.mwt_base.specs.Limits.{most_edges, most_points, most_tiles, most_unit}
-use Rattle.cert_text.specs.declared.found.Found.{Found}
-use Rattle.cert_text.specs.declared.found.Found.TheVariants.{NotSpelled, Outside, Is}
+use Rattle.cert_text.specs.declared.found.Flaw.TheVariants.{NotSpelled, Outside}
 use Rattle.cert_text.specs.declared.limits.Limits.{Limits}
 use Rattle.cert_text.specs.declared.refusal.Refusal2.{Refusal2}
 use Rattle.cert_text.specs.Cuts.{cut, fields}
+use Rattle.cert_text.specs.Found.{◌>>=◌, Found}
 use Rattle.cert_text.specs.Lines.{amount_line_in, count_in, diamond_in, edge_in, end_in, hull_in, length_in, live_in, method_in, most_bound, point_in, tri_in}
-use Rattle.cert_text.specs.Reading.{◌>>=◌, Place, block_at, is_behind, judged, line_at, line_by, row_at, rows_at, value_at, version_at, version_by}
+use Rattle.cert_text.specs.Reading.{Place, block_at, is_behind, judged, line_at, line_by, row_at, rows_at, value_at, version_at, version_by}
 use Rattle.cert_text.specs.Rows.{edge_may_follow, hull_may_follow, live_may_follow, point_may_follow, tri_may_follow}
-use Rattle.cert_text.specs.Whole.{edges_at, ended, head_at, points_at, report_at, report_of, tail_at}
+use Rattle.cert_text.specs.Whole.{edges_at, head_at, points_at, report_at, report_of, tail_at}
 use Rattle.svg_picture.specs.Draws.{IsReportRule}
 
 -- a refusal, if there is one, has the code of such a rule
@@ -35,9 +35,9 @@ unfolding line_at
 line_rule p = line_by_rule p.number (cut 10 p.rest)
 
 judged_rule : {X : Type 0} (n : ℕ) (f : Found X) → HasRule (judged n f)
-judged_rule n NotSpelled = record { least = omega arith; most = omega arith }
-judged_rule n Outside = record { least = omega arith; most = omega arith }
-judged_rule n (Is x) = tt
+judged_rule n (Err NotSpelled) = record { least = omega arith; most = omega arith }
+judged_rule n (Err Outside) = record { least = omega arith; most = omega arith }
+judged_rule n (Ok x) = tt
 
 value_rule : {X : Type 0} (says : List (List ℕ) → Found X) (p : Place) → HasRule (value_at says p)
 unfolding value_at

@@ -1,5 +1,5 @@
 -- What is written for an input: a picture or a refusal, and what a call of `draw` read and wrote beside its answer.
-use Rattle.std.specs.Prelude.{◌≡◌, ℕ, ◌<◌, ◌≤◌, List, length, Ok, Err, Some}
+use Rattle.std.specs.Prelude.{◌≡◌, ℕ, ◌<◌, ◌≤◌, List, length, Err, Some}
 use Rattle.std.specs.declared.option.Option.{Option}
 use Rattle.mwt_base.specs.Limits.{most_bytes}
 use Rattle.mwt_base.specs.Told.{Grows, GrowsByPrefix, IsTold}

@@ -1,6 +1,5 @@
 -- The picture of a report: SVG 1.1, line by line. What is drawn later hides what lies below it.
 use Rattle.std.specs.Prelude.{ℕ, Bool, List, [], ◌∷◌, ◌++◌, length, map, codes, decimal, slice_index_or, nat_lt, if◌then◌else◌}
-use Rattle.exact_predicates.specs.declared.point.Point.{Point}
 use Rattle.cert_text.specs.declared.report.Report.{Report}
 use Rattle.cert_text.specs.Texts.{lines_text}
 use Rattle.svg_picture.specs.declared.frame.Frame.{Frame}

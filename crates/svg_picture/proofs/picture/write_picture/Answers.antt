@@ -1,4 +1,4 @@
-use Rattle.std.proofs.Common.{◌≡◌, ◌∙◌, ◌++◌, ◌∷◌, [], List, ap, codes, map, subst}
+use Rattle.std.proofs.Common.{◌∙◌, ◌++◌, ◌∷◌, [], List, ap, codes, map, subst}
 use Rattle.cert_text.specs.Texts.{Grows}
 use Rattle.cert_text.proofs.Growing.{grows_then}
 use Rattle.svg_picture.specs.declared.frame.Frame.{Frame}
