@@ -49,9 +49,9 @@ HasQuad-across faces slots slot x fits h =
     }
 
 -- a slot has one quadrilateral
-pub IsShortening-only : (ps : List Point) (m : Parts) (slot u v a b x y c d : ℕ) → HasQuad m slot u v a b → HasQuad m slot x y c d
-    → IsShortening ps u v a b → IsShortening ps x y c d
-IsShortening-only ps m slot u v a b x y c d h k s =
+pub quad_only : (m : Parts) (slot u v a b x y c d : ℕ) (h : HasQuad m slot u v a b) (k : HasQuad m slot x y c d)
+    → (u ≡ x) × (v ≡ y) × (a ≡ c) × (b ≡ d) × (h.i ≡ k.i) × (h.j ≡ k.j)
+quad_only m slot u v a b x y c d h k =
     let h_up = h.up in
     let k_up = k.up in
     let ends : (u ≡ x) × (v ≡ y) = ⊎_elim (λ e. e) (λ e. let e0 = e.0 in let e1 = e.1 in absurd (omega arith)) (HasLeft-ends m.slots slot u v h.i x y k.i h.left k.left) in
@@ -65,7 +65,13 @@ IsShortening-only ps m slot u v a b x y c d h k s =
     let right_is = subst (λ n. HasCorners k.right_tri v n b) ends.0 (subst (λ (t : Tri). HasCorners t v u b) right_tri h.right_is) in
     let a_c = corner_once k.left_tri x y a c (subst (λ n. HasCorners k.left_tri x n a) ends.1 left_is) k.left_is in
     let b_d = corner_once k.right_tri y x b d (subst (λ n. HasCorners k.right_tri n x b) ends.1 right_is) k.right_is in
-    subst (λ n. IsShortening ps x y c n) b_d (subst (λ n. IsShortening ps x y n b) a_c (subst (λ n. IsShortening ps x n a b) ends.1 (subst (λ n. IsShortening ps n v a b) ends.0 s)))
+    (ends.0, ends.1, a_c, b_d, same_i, same_j)
+
+pub IsShortening-only : (ps : List Point) (m : Parts) (slot u v a b x y c d : ℕ) → HasQuad m slot u v a b → HasQuad m slot x y c d
+    → IsShortening ps u v a b → IsShortening ps x y c d
+IsShortening-only ps m slot u v a b x y c d h k s =
+    let e = quad_only m slot u v a b x y c d h k in
+    subst (λ n. IsShortening ps x y c n) e.3 (subst (λ n. IsShortening ps x y n b) e.2 (subst (λ n. IsShortening ps x n a b) e.1 (subst (λ n. IsShortening ps n v a b) e.0 s)))
 
 -- a slot that lacks a triangle has no quadrilateral
 pub outer_not_quad : (m : Parts) (slot u v a b : ℕ) → IsOuter m.slots slot → HasQuad m slot u v a b → ⊥

@@ -52,6 +52,7 @@ impl Mesh {
         ensures ascending { IfOk result (λ mesh. AllPairs (λ s t. IsUpTo s.edge t.edge) mesh.slots) }
         ensures mesh { IfOk result (λ mesh. IsMeshOf points.now.points hull.now mesh) }
         ensures within { IfOk result (λ mesh. All (IsWithin points.now.points) mesh.tris) }
+        ensures whole { IfOk result (λ mesh. IsWhole mesh) }
     {
         // A triangulation of n points has fewer than 3n edges.
         let room = 3 * points.len() as usize;

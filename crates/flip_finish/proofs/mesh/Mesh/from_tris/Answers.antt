@@ -1,9 +1,12 @@
 -- The slots of a triangulation make its mesh.
-use Rattle.std.proofs.Common.{length, subst, sym, ap, ◌∙◌, arith}
+use Rattle.std.proofs.Common.{List, length, subst, sym, ap, ◌∙◌, arith}
 use Rattle.exact_predicates.specs.Triangulation.{IsTriangulation, edges}
 use Rattle.exact_predicates.proofs.EdgeCounts.{edge_count-sides}
+use Rattle.flip_finish.specs.declared.slot.Slot.{Slot}
+use Rattle.flip_finish.specs.Face.{Fits}
 use Rattle.flip_finish.specs.Mesh.{edge_count}
 use Rattle.flip_finish.proofs.HullSums.{sides_met}
+use Rattle.flip_finish.proofs.Wholes.{IsWhole-fits}
 use Rattle.flip_finish.proofs.mesh.Mesh.from_tris.Goals as goal
 
 pub slots_of-requires-clause-few : goal.slots_of-requires-clause-few
@@ -30,3 +33,7 @@ returns-clause-mesh c =
       outer_left = slots.outer_left;
       outer_right = slots.outer_right;
     }
+
+pub returns-clause-whole : goal.returns-clause-whole
+returns-clause-whole c = IsWhole-fits c.in_ok-faces.faces.items c.in_ok-slots.slots.items
+    (subst (λ (l : List Slot). Fits c.in_ok-faces.faces.items l) c.deref.ensures.value c.in_ok-faces.ensures.fits)
