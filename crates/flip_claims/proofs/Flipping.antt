@@ -14,9 +14,9 @@ use Rattle.flip_claims.proofs.Untouched.{IsUntouched, had_triangle, has_or_not, 
 use Rattle.flip_claims.proofs.Winning.{pair_of_quad}
 
 -- one more flip
-flipped_more : (ps : List Point) (old mid new : Parts) (slots : List ℕ) (slot : ℕ) → AreFlipped ps old slots mid → IsFlipped ps mid new slot → AreFlipped ps old (slots ++ slot ∷ []) new
-flipped_more ps old mid new [] slot h f = (new, subst (λ (m : Parts). IsFlipped ps m new slot) h f, refl)
-flipped_more ps old mid new (s ∷ ss) slot h f = (h.0, h.1, flipped_more ps h.0 mid new ss slot h.2 f)
+flipped_more : (ps : List Point) (old mid new : Parts) (slots : List ℕ) (slot : ℕ) → AreFlipped ps old slots mid → IsFlipped ps mid new slot → IsWhole new → AreFlipped ps old (slots ++ slot ∷ []) new
+flipped_more ps old mid new [] slot h f whole = (new, subst (λ (m : Parts). IsFlipped ps m new slot) h f, whole, refl)
+flipped_more ps old mid new (s ∷ ss) slot h f whole = (h.0, h.1, h.2, flipped_more ps h.0 mid new ss slot h.3 f whole)
 
 -- the first k of the winners were flipped
 pub record AreFlippedTo (ps : List Point) (old now : Parts) (winners : List ℕ) (k : ℕ) : Type 0 where
@@ -76,7 +76,7 @@ module _ (ps : List Point) (old : Parts) (winners : List ℕ) (are : AreWinners 
       let won = winner_at k w at_k in
       let last : take (k + 1) winners ≡ take k winners ++ w ∷ [] = take_more winners k w at_k.inside ∙ ap (λ (x : ℕ). take k winners ++ x ∷ []) at_k.is in
       record {
-        flipped = subst (λ (l : List ℕ). AreFlipped ps old l new) (sym last) (flipped_more ps old now new (take k winners) w h.flipped f);
+        flipped = subst (λ (l : List ℕ). AreFlipped ps old l new) (sym last) (flipped_more ps old now new (take k winners) w h.flipped f whole);
         untouched = λ j p past at_j.
             let after = are.ascending k j w (omega arith) at_j.inside in
             let greater : w < p = subst (λ (x : ℕ). x < p) at_k.is (subst (λ (x : ℕ). get_or winners k w < x) (get_or_default winners j w p at_j.inside ∙ at_j.is) after) in

@@ -1,11 +1,14 @@
 pub mod Claiming
 pub mod Closes
+pub mod Descending
 pub mod Flipping
 pub mod Gathering
 pub mod Joining
 pub mod Lowers
 pub mod Members
 pub mod Nearing
+pub mod OneFlip
+pub mod OneMesh
 pub mod Picking
 pub mod Remembering
 pub mod Repeating

@@ -72,11 +72,16 @@ has_side m p x y t h =
     (λ (down : y ≤ x). record { it = h.slot; it_at = h.slot_at; has = inr (sym (left_down h.slot x y down) ∙ h.left) })
     (cases_lt x y)
 
-slot_same : (s t : Slot) → t.edge ≡ s.edge → t.left ≡ s.left → t.right ≡ s.right → t ≡ s
+pub slot_same : (s t : Slot) → t.edge ≡ s.edge → t.left ≡ s.left → t.right ≡ s.right → t ≡ s
 slot_same s t e l r =
     ap (λ (x : Edge). let z : Slot = record { edge = x; left = t.left; right = t.right } in z) e
     ∙ (ap (λ (x : Option ℕ). let z : Slot = record { edge = s.edge; left = x; right = t.right } in z) l
     ∙ ap (λ (x : Option ℕ). let z : Slot = record { edge = s.edge; left = s.left; right = x } in z) r)
+
+-- a flip keeps the number of slots
+pub flip_slots : (ps : List Point) (mid new : Parts) (slot : ℕ) → IsFlipped ps mid new slot → length new.slots ≡ length mid.slots
+flip_slots ps mid new slot f =
+    sym (length-map new.slots (λ z. z.edge)) ∙ (ap length f.edges ∙ (length-set (slot_edges mid.slots) slot f.edge ∙ length-map mid.slots (λ z. z.edge)))
 
 -- a slot without a triangle in common with the one that is flipped is left as it was
 pub untouched_flip : (ps : List Point) (old mid new : Parts) (w p : ℕ) → IsFlipped ps mid new w → Shortens ps old w → IsUntouched old mid w → IsUntouched old mid p
@@ -93,7 +98,7 @@ untouched_flip ps old mid new w p f w_short w_same p_same ne apart =
     record {
       slot = λ s at_p.
           let at_mid = p_same.slot s at_p in
-          let many : length new.slots ≡ length mid.slots = sym (length-map new.slots (λ z. z.edge)) ∙ (ap length f.edges ∙ (length-set (slot_edges mid.slots) w f.edge ∙ length-map mid.slots (λ z. z.edge))) in
+          let many = flip_slots ps mid new w f in
           let inside = at_mid.inside in
           let (t, at_new) = some_at new.slots p (omega arith) in
           let k = f.others p s t ne at_mid at_new in
@@ -150,7 +155,7 @@ untouched_back ps mid new w p f not_i not_j =
     let ne : p ≢ w = λ same. not_i (subst (λ (i : ℕ). HasTriangle new i q.i) (sym same) (has_side new w f.b f.a q.i f.top)) in
     record {
       slot = λ t at_new.
-          let many : length new.slots ≡ length mid.slots = sym (length-map new.slots (λ z. z.edge)) ∙ (ap length f.edges ∙ (length-set (slot_edges mid.slots) w f.edge ∙ length-map mid.slots (λ z. z.edge))) in
+          let many = flip_slots ps mid new w f in
           let inside = at_new.inside in
           let (s, at_mid) = some_at mid.slots p (omega arith) in
           let k = f.others p s t ne at_mid at_new in

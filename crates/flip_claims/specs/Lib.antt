@@ -1,4 +1,5 @@
 pub mod Answers
+pub mod Descent
 pub mod Handles
 pub mod Plays
 pub mod Rounds

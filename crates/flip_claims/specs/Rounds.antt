@@ -2,7 +2,7 @@
 use Rattle.std.specs.Prelude.{◌≡◌, ◌⊎◌, ℕ, ◌+◌, ◌<◌, ◌≤◌, ◌%◌, List, [], ◌∷◌, length, slice_index, All, AllPairs, Any, Contains}
 use Rattle.exact_predicates.specs.declared.point.Point.{Point}
 use Rattle.flip_finish.specs.Flipping.{IsFlipped, Shortens}
-use Rattle.flip_finish.specs.Mesh.{Parts}
+use Rattle.flip_finish.specs.Mesh.{IsWhole, Parts}
 use Rattle.flip_finish.specs.Places.{IsAt}
 use Rattle.flip_finish.specs.Winners.{AreWinners, HasPair, HasTriangle}
 use Rattle.flip_claims.specs.declared.view.Claimed.{Claimed}
@@ -11,10 +11,10 @@ use Rattle.flip_claims.specs.Handles.{SeatView}
 use Rattle.flip_claims.specs.Rule.{claim_on}
 use Rattle.flip_claims.specs.Words.{unclaimed}
 
--- the slots were flipped, one after the other
+-- the slots were flipped, one after the other, and after each flip the mesh was whole
 abbrev pub AreFlipped : List Point → Parts → List ℕ → Parts → Type 0
 AreFlipped ps old [] new = new ≡ old
-AreFlipped ps old (slot ∷ slots) new = (mid : Parts) × IsFlipped ps old mid slot × AreFlipped ps mid slots new
+AreFlipped ps old (slot ∷ slots) new = (mid : Parts) × IsFlipped ps old mid slot × IsWhole mid × AreFlipped ps mid slots new
 
 -- p has a triangle that one of these slots had in the mesh before
 pub record IsTouched (old new : Parts) (slots : List ℕ) (p : ℕ) : Type 0 where

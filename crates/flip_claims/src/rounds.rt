@@ -109,8 +109,22 @@ fn next_round<R: Threads + Sync, G: Gate>(
     Ok(slots)
 }
 
-/// Shortens a triangulation by rounds of flips until no flip makes it shorter. `NoMemory` is the only error;
-/// the mesh may have been shortened by then.
+// A thread is started for each so many slots of a round: a claim takes less than a start.
+const SLOTS_FOR_A_THREAD: usize = 8_192;
+
+// How many of the workers claim the triangles of so many slots.
+fn team_size(slots: usize, workers: u32) -> u32
+    requires { 0 < workers }
+    ensures some { 0 < result }
+    ensures few { result ≤ workers }
+{
+    let wanted = slots / SLOTS_FOR_A_THREAD + 1;
+    wanted.min(workers as usize) as u32
+}
+
+/// Shortens a triangulation by rounds of flips until no flip makes it shorter. So many workers, from 1 to 64,
+/// are at hand; a round starts a thread for each 8,192 slots that shorten, up to these. What comes of it does
+/// not depend on them. `NoMemory` is the only error; the mesh may have been shortened by then.
 pub fn shorten_claimed<R: Threads + Sync, G: Gate>(
     rt: &R,
     alloc: Global,
@@ -130,7 +144,8 @@ pub fn shorten_claimed<R: Threads + Sync, G: Gate>(
 {
     let mut slots = all_shortening(alloc, points, mesh)?;
     'rounds: while !slots.is_empty() {
-        slots = next_round(rt, alloc, points, mesh, &slots, workers, gate)?;
+        let team = team_size(slots.len(), workers);
+        slots = next_round(rt, alloc, points, mesh, &slots, team, gate)?;
     }
     Ok(())
 }
