@@ -3,6 +3,7 @@ pub mod Emptiness
 pub mod Finals
 pub mod Hulls
 pub mod Joins
+pub mod OneFirst
 pub mod Outlines
 pub mod PairCounts
 pub mod Rules
