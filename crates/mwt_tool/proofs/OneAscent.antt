@@ -34,7 +34,7 @@ use Rattle.dual_checker.specs.GoodReport.{IsGoodReport, anchored_of, is_off_hull
 use Rattle.mwt_tool.specs.ReportOf.{HasAscentPrices}
 
 -- the points of a good report are those of a problem
-point_set : (r : Report) → IsGoodReport r → IsPointSet r.points
+pub point_set : (r : Report) → IsGoodReport r → IsPointSet r.points
 point_set r g =
     let most = g.within.points_count.most in
     record {

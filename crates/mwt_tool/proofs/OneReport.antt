@@ -1,22 +1,20 @@
 -- Two reports of one file are alike.
-use Rattle.std.proofs.Common.{◌≡◌, ℕ, ◌<◌, List, length, get_or, map, Contains, ℤ, pos, ◌-ℤ◌, lit<, arith, refl, ap, sym, ◌∙◌, subst}
+use Rattle.std.proofs.Common.{◌≡◌, ℕ, ◌<◌, List, length, get_or, Contains, ℤ, pos, ◌-ℤ◌, lit<, refl, ap, sym, ◌∙◌, subst}
 use Rattle.std.specs.Prelude.{◌↔◌}
 use Rattle.std.proofs.lemmas.List.{ext_get_or, length-map}
-use Rattle.std.proofs.lemmas.List.Sorted.{Contains-permutation, IsPermutation-sym}
-use Rattle.mwt_base.specs.declared.status.Status.TheVariants.{Done}
 use Rattle.exact_predicates.specs.declared.diamond.Diamond.{Diamond}
 use Rattle.exact_predicates.specs.declared.edge.Edge.{Edge}
 use Rattle.exact_predicates.specs.declared.point.Point.{Point}
 use Rattle.exact_predicates.specs.declared.tri.Tri.{Tri}
-use Rattle.exact_predicates.specs.Merging.{IsMadeFrom, firsts}
-use Rattle.exact_predicates.specs.Plane.{Precedes}
 use Rattle.exact_predicates.specs.Triangulation.{edges}
-use Rattle.exact_predicates.proofs.Ascending.{ascending-only}
-use Rattle.exact_predicates.proofs.Order.{Precedes-not}
 use Rattle.length_enclosure.specs.Enclosure.{lo, hi}
 use Rattle.lmt_network.specs.Live.{IsHullEdge}
 use Rattle.lmt_network.specs.Prices.{Priced, bound}
 use Rattle.price_ascent.proofs.Kept.{get_or-mapped}
+use Rattle.flip_claims.specs.Descent.{IsDescendant}
+use Rattle.flip_claims.proofs.Descending.{one_descendant}
+use Rattle.hull_sweep.specs.First.{IsFirst}
+use Rattle.hull_sweep.proofs.OneFirst.{one_first}
 use Rattle.skeleton_faces.specs.Faces.{AreFaces}
 use Rattle.skeleton_faces.proofs.OneFaceList.{one_face_list}
 use Rattle.face_optimum.specs.Decomposition.{Decomposes, bounded_faces}
@@ -29,17 +27,12 @@ use Rattle.cert_text.specs.declared.report.Method.{Method}
 use Rattle.cert_text.specs.declared.report.Method.TheVariants.{Faces, Flips}
 use Rattle.cert_text.specs.declared.report.PriceLine.{PriceLine}
 use Rattle.cert_text.specs.declared.report.Report.{Report}
-use Rattle.cert_text.specs.Texts.{report_text}
 use Rattle.dual_checker.specs.GoodReport.{IsGoodReport, IsMarked, live_edges_of, price_of, prices_of}
 use Rattle.tsplib_points.specs.declared.file.File.{File}
-use Rattle.tsplib_points.specs.Files.{IsFileOf, nodes_of}
-use Rattle.tsplib_points.specs.Refusals.{scaled}
 use Rattle.mwt_tool.specs.declared.solver.Settings.{Settings}
-use Rattle.mwt_tool.specs.declared.solving.Form.TheVariants.{Whole}
-use Rattle.mwt_tool.specs.OneFile.{AreAlike, OneFileAlike, OneInputAlike, ShareEdges, SharePrices}
-use Rattle.mwt_tool.specs.ReportOf.{HasAscentPrices, HasFaceOptimum, IsReportOf}
-use Rattle.mwt_tool.specs.Solves.{AnswersFile, Solves, tells, accepted, refused as file_refused, dense_edges as has_dense_edges, dense_triangles as has_dense_triangles}
-use Rattle.mwt_tool.proofs.OneAscent.{ascent_prices, candidates, hull, live, skeleton}
+use Rattle.mwt_tool.specs.OneFile.{AreAlike, OneFileAlike, ShareEdges, ShareTriangulation}
+use Rattle.mwt_tool.specs.ReportOf.{HasAscentPrices, HasFaceOptimum, IsReportOf, IsShortenedSweep}
+use Rattle.mwt_tool.proofs.OneAscent.{ascent_prices, candidates, hull, live, point_set, skeleton}
 use Rattle.mwt_tool.proofs.SameKinds.{same_kind, same_method}
 
 same_line : (l m : PriceLine) → price_of l ≡ price_of m → l.kind ≡ m.kind → l ≡ m
@@ -95,9 +88,6 @@ module _ {r q : Report} (version : r.version ≡ 2) (other_version : q.version �
   same_bound : prices_of r ≡ prices_of q → r.bound ≡ q.bound
   same_bound prices = g.bound.sum ∙ (ap (λ (x : List ℕ). bound x (prices_of r)) hull_is ∙ (ap (λ (ps : List Priced). bound q.hull ps) prices ∙ sym k.bound.sum))
 
-  pub share_prices : prices_of r ≡ prices_of q → SharePrices r q
-  share_prices prices = record { prices = prices; bound = same_bound prices }
-
   pub share_edges : r.method ≡ q.method → ShareEdges r q
   share_edges method = record {
     points = points;
@@ -108,15 +98,24 @@ module _ {r q : Report} (version : r.version ≡ 2) (other_version : q.version �
     method = method;
   }
 
+  -- with the same triangles they have the same length
+  share_triangulation : r.tris ≡ q.tris → ShareTriangulation r q
+  share_triangulation tris = record {
+    tris = tris;
+    lo = g.length.lower
+        ∙ (ap (λ (ps : List Point). lo ps (edges r.hull r.tris)) points
+        ∙ (ap (λ (x : List ℕ). lo q.points (edges x r.tris)) hull_is ∙ (ap (λ (ts : List Tri). lo q.points (edges q.hull ts)) tris ∙ sym k.length.lower)));
+    hi = g.length.upper
+        ∙ (ap (λ (ps : List Point). hi ps (edges r.hull r.tris)) points
+        ∙ (ap (λ (x : List ℕ). hi q.points (edges x r.tris)) hull_is ∙ (ap (λ (ts : List Tri). hi q.points (edges q.hull ts)) tris ∙ sym k.length.upper)));
+  }
+
   -- with the same triangles and prices they are one
-  one_report : r.unit ≡ q.unit → r.merged ≡ q.merged → r.method ≡ q.method → r.tris ≡ q.tris → prices_of r ≡ prices_of q → r ≡ q
-  one_report unit merged method tris prices =
-      let low : r.lo ≡ q.lo = g.length.lower
-      ∙ (ap (λ (ps : List Point). lo ps (edges r.hull r.tris)) points
-      ∙ (ap (λ (x : List ℕ). lo q.points (edges x r.tris)) hull_is ∙ (ap (λ (ts : List Tri). lo q.points (edges q.hull ts)) tris ∙ sym k.length.lower))) in
-      let high : r.hi ≡ q.hi = g.length.upper
-      ∙ (ap (λ (ps : List Point). hi ps (edges r.hull r.tris)) points
-      ∙ (ap (λ (x : List ℕ). hi q.points (edges x r.tris)) hull_is ∙ (ap (λ (ts : List Tri). hi q.points (edges q.hull ts)) tris ∙ sym k.length.upper))) in
+  one_report : r.unit ≡ q.unit → r.merged ≡ q.merged → r.method ≡ q.method → ShareTriangulation r q → prices_of r ≡ prices_of q → r ≡ q
+  one_report unit merged method shared prices =
+      let tris = shared.tris in
+      let low = shared.lo in
+      let high = shared.hi in
       let sum = same_bound prices in
       let gap : r.gap ≡ q.gap = g.gap ∙ (ap (λ (h : ℕ). pos h -ℤ r.bound) high ∙ (ap (λ (b : ℤ). pos q.hi -ℤ b) sum ∙ sym k.gap)) in
       ap (λ (x : ℕ). record r { version = x }) (version ∙ sym other_version)
@@ -157,8 +156,18 @@ module _ {r q : Report} (version : r.version ≡ 2) (other_version : q.version �
         g.hull g.live.closed.ascending g.skeleton first decomposes a.rule
         (with_faces (λ ps x live es fs. FollowsFaceRule ps x live es (bounded_faces x fs) q.tris (prices_of q)) b.rule)
 
+  -- both descend from the first triangulation of the points
+  descendant_is : IsShortenedSweep r → IsShortenedSweep q → r.tris ≡ q.tris
+  descendant_is a b =
+      let first : a.first ≡ b.first =
+      one_first r.points r.hull q.hull a.first b.first a.first_is (subst (λ (ps : List Point). IsFirst ps q.hull b.first) (sym points) b.first_is) in
+      let other : IsDescendant r.points r.hull a.first q.tris =
+      subst (λ (ts : List Tri). IsDescendant r.points r.hull ts q.tris) (sym first)
+      (as_of (λ (ps : List Point) (x : List ℕ) _ _. IsDescendant ps x b.first q.tris) b.descendant) in
+      one_descendant r.points r.hull a.first r.tris q.tris (point_set r g) g.hull a.descendant other
+
 -- reports of the same points with the same value of the diamond test, unit and number of merged nodes
-are_alike : (file other : File) (s t : Settings) (r q : Report) → s.diamond ≡ t.diamond → file.points.points ≡ other.points.points → file.unit ≡ other.unit
+pub are_alike : (file other : File) (s t : Settings) (r q : Report) → s.diamond ≡ t.diamond → file.points.points ≡ other.points.points → file.unit ≡ other.unit
     → file.merged ≡ other.merged → IsReportOf file s r → IsReportOf other t q → AreAlike s t r q
 are_alike file other s t r q words points_same unit merged a b =
     let points = a.points ∙ (points_same ∙ sym b.points) in
@@ -173,69 +182,21 @@ are_alike file other s t r q words points_same unit merged a b =
     let ascent : s.sweeps ≡ t.sweeps → r.method ≡ Flips → prices_of r ≡ prices_of q
     = λ sweeps flips. ascent_prices points diamond g k s.sweeps a.version b.version (a.by_flips flips).ascent
     (subst (λ (n : ℕ). HasAscentPrices n q) (sym sweeps) (b.by_flips (sym method ∙ flips)).ascent) in
+    let descent : r.method ≡ Flips → r.tris ≡ q.tris
+    = λ flips. descendant_is a.version b.version points diamond g k (a.by_flips flips).shortened (b.by_flips (sym method ∙ flips)).shortened in
+    let shared = share_triangulation a.version b.version points diamond g k (by_method r.method refl (λ faces. (optimum faces).0) descent) in
+    let one : prices_of r ≡ prices_of q → r ≡ q
+    = one_report a.version b.version points diamond g k (a.unit ∙ (unit ∙ sym b.unit)) (a.merged ∙ (merged ∙ sym b.merged)) method shared in
     record {
       edges = share_edges a.version b.version points diamond g k method;
-      prices = λ sweeps. share_prices a.version b.version points diamond g k (by_method r.method refl (λ faces. (optimum faces).1) (ascent sweeps));
-      same = λ faces. one_report a.version b.version points diamond g k (a.unit ∙ (unit ∙ sym b.unit)) (a.merged ∙ (merged ∙ sym b.merged)) method
-          (optimum faces).0 (optimum faces).1;
+      triangulation = shared;
+      same = λ sweeps. one (by_method r.method refl (λ faces. (optimum faces).1) (ascent sweeps));
+      same_faces = λ faces. one (optimum faces).1;
     }
   where
-    by_method : (m : Method) → r.method ≡ m → (r.method ≡ Faces → prices_of r ≡ prices_of q) → (r.method ≡ Flips → prices_of r ≡ prices_of q) → prices_of r ≡ prices_of q
+    by_method : {A : Type 0} → (m : Method) → r.method ≡ m → (r.method ≡ Faces → A) → (r.method ≡ Flips → A) → A
     by_method Faces is faces flips = faces is
     by_method Flips is faces flips = flips is
 
 pub one_file_alike : OneFileAlike
 one_file_alike file s t r q diamond a b = are_alike file file s t r q diamond refl refl refl a b
-
--- the files of one input hold the same points, in the same unit, and as many nodes of each went
-points_once : (input : List ℕ) (f g : File) → IsFileOf input f → IsFileOf input g → f.points.points ≡ g.points.points
-points_once input f g a b =
-    let units : f.unit ≡ g.unit = a.least_unit ∙ sym b.least_unit in
-    let list = map (scaled f.unit) (nodes_of input) in
-    let other : IsMadeFrom list g.points = subst (λ (k : ℕ). IsMadeFrom (map (scaled k) (nodes_of input)) g.points) (sym units) b.made in
-    ascending-only Precedes Precedes-not f.points.points g.points.points a.made.ordered.ascending other.ordered.ascending
-    (λ p has. Contains-permutation (firsts list) g.points.points p other.stay
-    (Contains-permutation f.points.points (firsts list) p (IsPermutation-sym (firsts list) f.points.points a.made.stay) has))
-    (λ p has. Contains-permutation (firsts list) f.points.points p a.made.stay
-    (Contains-permutation g.points.points (firsts list) p (IsPermutation-sym (firsts list) g.points.points other.stay) has))
-
-merged_once : (input : List ℕ) (f g : File) → IsFileOf input f → IsFileOf input g → f.merged ≡ g.merged
-merged_once input f g a b =
-    let units : f.unit ≡ g.unit = a.least_unit ∙ sym b.least_unit in
-    let points = ap (λ (ps : List Point). length ps) (points_once input f g a b) in
-    let count = a.made.merged in
-    let other = b.made.merged in
-    let size = length-map (nodes_of input) (scaled f.unit) in
-    let other_size = length-map (nodes_of input) (scaled g.unit) in
-    a.merged_told ∙ (omega (arith, points, count, other, size, other_size) ∙ sym b.merged_told)
-
--- what `solve` means to write with Done is the text of the report of some file of the input
-record IsTextFor (settings : Settings) (input text : List ℕ) : Type 0 where
-  file : File
-  report : Report
-  file_is : IsFileOf input file
-  report_is : IsReportOf file settings report
-  text_is : text ≡ report_text report
-
-in_file : (settings : Settings) (input text : List ℕ) (file : File) → IsFileOf input file → AnswersFile Whole file settings Done text → IsTextFor settings input text
-in_file settings input text file of (has_dense_edges many says) = absurd (cc says.0)
-in_file settings input text file of (has_dense_triangles many says) = absurd (cc says.0)
-in_file settings input text file of (tells within done_is (r, is, same)) =
-    record { file = file; report = r; file_is = of; report_is = is; text_is = same }
-
-in_input : (settings : Settings) (input text : List ℕ) → Solves settings input Done text → IsTextFor settings input text
-in_input settings input text (file_refused why is says) = absurd (cc says.0)
-in_input settings input text (accepted file of reports) = in_file settings input text file of reports
-
-pub one_input_alike : OneInputAlike
-one_input_alike input first second s t diamond x y =
-    let a = in_input s input first x in
-    let b = in_input t input second y in
-    record {
-      r = a.report;
-      q = b.report;
-      first_is = a.text_is;
-      second_is = b.text_is;
-      alike = are_alike a.file b.file s t a.report b.report diamond (points_once input a.file b.file a.file_is b.file_is)
-          (a.file_is.least_unit ∙ sym b.file_is.least_unit) (merged_once input a.file b.file a.file_is b.file_is) a.report_is b.report_is;
-    }

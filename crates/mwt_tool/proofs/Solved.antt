@@ -11,10 +11,11 @@ use Rattle.exact_predicates.specs.Flip.{IsFlipMinimal}
 use Rattle.exact_predicates.specs.Hull.{IsHull}
 use Rattle.exact_predicates.specs.Length.{IsNotLonger}
 use Rattle.exact_predicates.specs.Plane.{IsInRange}
-use Rattle.exact_predicates.specs.PointSet.{IsPointSet, point_at}
+use Rattle.exact_predicates.specs.PointSet.{IsPointSet}
 use Rattle.exact_predicates.specs.Triangulation.{IsEmpty, IsTriangulation, edges}
 use Rattle.length_enclosure.specs.Enclosure.{lo, hi}
-use Rattle.hull_sweep.specs.Rule.{FollowsRule}
+use Rattle.flip_claims.specs.Descent.{IsDescendant}
+use Rattle.hull_sweep.specs.First.{IsFirst}
 use Rattle.lmt_network.specs.Edges.{HasEdgesIn}
 use Rattle.lmt_network.specs.Flags.{live_edges, live_numbers}
 use Rattle.lmt_network.specs.Live.{IsHullEdge, IsLive}
@@ -69,8 +70,7 @@ pub record IsMade (ps : List Point) (n : NetworkParts) (flags : List Bool) (entr
   pub ids : All (λ p. p.id < 2 ^ 32) r.points
   pub lawful : IsPointSet ps
   pub hull : IsHull ps r.hull
-  pub first_is : IsTriangulation ps r.hull first
-  pub rule : FollowsRule (point_at ps) (length ps) first
+  pub first_is : IsFirst ps r.hull first
   pub network : IsNetworkOf ps r.hull r.diamond n
   pub one_each : length flags ≡ length n.edges
   pub leaves : LeavesLive n flags
@@ -224,8 +224,8 @@ module _ {n : NetworkParts} {flags : List Bool} {entries : List PriceEntry} {fir
     ascent = ascent flips;
     shortened = record {
       first = first;
-      triangulation = m.first_is;
-      rule = m.rule;
+      first_is = m.first_is;
+      descendant = of_report (λ ps hull. IsDescendant ps hull first r.tris) (m.solution.by_flips flips).descendant;
       not_longer = of_report (λ ps hull. IsNotLonger ps (edges hull r.tris) (edges hull first)) (m.solution.by_flips flips).not_longer;
     };
   }

@@ -4,7 +4,7 @@ use Rattle.mwt_base.specs.declared.status.Status.TheVariants.{Done}
 use Rattle.cert_text.specs.declared.report.Method.TheVariants.{Faces}
 use Rattle.cert_text.specs.declared.report.Report.{Report}
 use Rattle.cert_text.specs.Texts.{report_text}
-use Rattle.dual_checker.specs.GoodReport.{live_edges_of, prices_of}
+use Rattle.dual_checker.specs.GoodReport.{live_edges_of}
 use Rattle.tsplib_points.specs.declared.file.File.{File}
 use Rattle.mwt_tool.specs.declared.solver.Settings.{Settings}
 use Rattle.mwt_tool.specs.ReportOf.{IsReportOf}
@@ -19,17 +19,19 @@ pub record ShareEdges (r q : Report) : Type 0 where
   pub skeleton : r.skeleton ≡ q.skeleton
   pub method : r.method ≡ q.method
 
--- the same prices, anchors and bound
-pub record SharePrices (r q : Report) : Type 0 where
-  pub prices : prices_of r ≡ prices_of q
-  pub bound : r.bound ≡ q.bound
+-- the same triangulation, and the same enclosure of its length
+pub record ShareTriangulation (r q : Report) : Type 0 where
+  pub tris : r.tris ≡ q.tris
+  pub lo : r.lo ≡ q.lo
+  pub hi : r.hi ≡ q.hi
 
--- two reports with the same value of the diamond test share their edges, and with the same number of sweeps their prices;
--- with the method faces they are one report, whatever the sweeps
+-- Two reports with the same value of the diamond test share all but their prices, bound and gap. With the same number of sweeps
+-- they are one report, and with the method faces they are one whatever the sweeps.
 pub record AreAlike (s t : Settings) (r q : Report) : Type 0 where
   pub edges : ShareEdges r q
-  pub prices : s.sweeps ≡ t.sweeps → SharePrices r q
-  pub same : r.method ≡ Faces → r ≡ q
+  pub triangulation : ShareTriangulation r q
+  pub same : s.sweeps ≡ t.sweeps → r ≡ q
+  pub same_faces : r.method ≡ Faces → r ≡ q
 
 -- Reports of one file with the same value of the diamond test are alike.
 abbrev pub OneFileAlike : Type 0
@@ -49,3 +51,9 @@ abbrev pub OneInputAlike : Type 0
 OneInputAlike =
     (input first second : List ℕ) (s t : Settings) → s.diamond ≡ t.diamond → Solves s input Done first → Solves t input Done second
     → AreTextsAlike s t first second
+
+-- With the same number of sweeps they are the same bytes.
+abbrev pub OneText : Type 0
+OneText =
+    (input first second : List ℕ) (s t : Settings) → s.diamond ≡ t.diamond → s.sweeps ≡ t.sweeps → Solves s input Done first
+    → Solves t input Done second → first ≡ second

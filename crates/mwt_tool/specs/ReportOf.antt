@@ -5,10 +5,10 @@ use Rattle.exact_predicates.specs.declared.diamond.Diamond.TheVariants.{Off, On}
 use Rattle.exact_predicates.specs.declared.point.Point.{Point}
 use Rattle.exact_predicates.specs.declared.tri.Tri.{Tri}
 use Rattle.exact_predicates.specs.Length.{IsAtLeast, IsAtMost, IsNotLonger}
-use Rattle.exact_predicates.specs.PointSet.{point_at}
 use Rattle.exact_predicates.specs.Triangulation.{IsTriangulation, edges}
 use Rattle.length_enclosure.specs.Enclosure.{lo}
-use Rattle.hull_sweep.specs.Rule.{FollowsRule}
+use Rattle.flip_claims.specs.Descent.{IsDescendant}
+use Rattle.hull_sweep.specs.First.{IsFirst}
 use Rattle.lmt_network.specs.Bounds.{Exclusion, NoneIsShorter}
 use Rattle.lmt_network.specs.Edges.{HasCandidateEdges, HasEdgesIn, IsEdgeOf}
 use Rattle.lmt_network.specs.FlipMinimal.{IsFlipMinimalTriangulation}
@@ -67,11 +67,12 @@ pub record HasAscentPrices (sweeps : ℕ) (r : Report) : Type 0 where
   pub ascent : IsAscent net flags (anchored_of r) sweeps table
   pub prices : prices_of r ≡ table_prices net table (live_numbers flags)
 
--- The triangulation was found by flips that shorten the one that the sweep's rule chooses: it is not longer than that.
+-- The triangulation is the descendant of the first one, which the sweep's rule chooses: rounds of claimed flips lead from that to
+-- it. So it is not longer than that.
 pub record IsShortenedSweep (r : Report) : Type 0 where
   pub first : List Tri
-  pub triangulation : IsTriangulation r.points r.hull first
-  pub rule : FollowsRule (point_at r.points) (length r.points) first
+  pub first_is : IsFirst r.points r.hull first
+  pub descendant : IsDescendant r.points r.hull first r.tris
   pub not_longer : IsNotLonger r.points (edges r.hull r.tris) (edges r.hull first)
 
 -- With the method faces each edge of the triangulation is live, and the triangles, the prices and the anchors are those of

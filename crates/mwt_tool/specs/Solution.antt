@@ -14,6 +14,7 @@ use Rattle.lmt_network.specs.Live.{IsLive}
 use Rattle.lmt_network.specs.Network.{NetworkParts}
 use Rattle.lmt_network.specs.Numbers.{AreLive}
 use Rattle.lmt_network.specs.Prices.{bound}
+use Rattle.flip_claims.specs.Descent.{IsDescendant}
 use Rattle.skeleton_faces.specs.Faces.{AreFaces}
 use Rattle.face_optimum.specs.Decomposition.{Decomposes, bounded_faces}
 use Rattle.face_optimum.specs.FaceRule.{FollowsFaceRule}
@@ -46,9 +47,10 @@ pub record IsOptimum (n : NetworkParts) (live skeleton : List Edge) (faces : Lis
   pub rule : FollowsFaceRule n.points n.hull live skeleton (bounded_faces n.hull faces) s.tris (prices_of n s.prices)
   pub bound_is : bound n.hull (prices_of n s.prices) ≡ pos (lo n.points (edges n.hull s.tris))
 
--- With the method flips no flip makes the triangulation shorter, it is not longer than the sweep's, and the prices are those
--- of the ascent.
+-- With the method flips the triangulation is the descendant of the sweep's: no flip makes it shorter, and it is not longer.
+-- The prices are those of the ascent.
 pub record IsDescent (n : NetworkParts) (flags : List Bool) (first : List Tri) (sweeps : ℕ) (s : Solution) : Type 0 where
+  pub descendant : IsDescendant n.points n.hull first s.tris
   pub minimal : IsFlipMinimal n.points n.hull s.tris
   pub not_longer : IsNotLonger n.points (edges n.hull s.tris) (edges n.hull first)
   pub ascent : IsAscent n flags (anchored_edges n s.prices) sweeps (table_of s.prices)

@@ -6,7 +6,7 @@ ghost use Rattle.mwt_base.specs.declared.status.Status.TheVariants.{Done as is_d
 ghost use Rattle.mwt_tool.specs.declared.solver.Settings.{Settings as settings_type};
 ghost use Rattle.mwt_tool.specs.declared.words.Mode.TheVariants.{Check as to_check};
 ghost use Rattle.mwt_tool.specs.Intends.{Intends};
-ghost use Rattle.mwt_tool.specs.OneFile.{OneFileAlike, OneInputAlike};
+ghost use Rattle.mwt_tool.specs.OneFile.{OneFileAlike, OneInputAlike, OneText};
 ghost use Rattle.mwt_tool.specs.Solves.{Solves};
 ghost use Rattle.mwt_tool.specs.Words.{AskFor};
 
@@ -18,12 +18,13 @@ pub fn round_trip_law()
         → (status ≡ is_done) × (said ≡ line (codes "valid")) }
 {}
 
-/// Two reports of one file with the same value of the diamond test have the same points, hull, number of
-/// candidate edges, live edges, skeleton and method, whatever the workers, the sweeps and the gate; and with
-/// the same number of sweeps the same prices, anchors and bound. With the method faces they are one report,
-/// whatever the sweeps. The same holds of two texts that `solve` means to write for one input. It does
-/// nothing: its contract says so.
+/// Two reports of one file with the same value of the diamond test and the same number of sweeps are one
+/// report, whatever the workers, the gate and the schedule; and two texts that `solve` means to write for
+/// one input are the same bytes. With other sweeps the reports still share the points, the hull, the edges,
+/// the method, the triangulation and its length; with the method faces they are one. It does nothing: its
+/// contract says so.
 pub fn one_file_law()
     ensures reports { OneFileAlike }
     ensures texts { OneInputAlike }
+    ensures bytes { OneText }
 {}

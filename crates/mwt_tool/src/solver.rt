@@ -26,7 +26,7 @@ use std::thread::Threads;
 use steal_workers::{Dealing, Settled, settle_all};
 use tsplib_points::File;
 
-/// What `solve` is asked for: how many workers discard edges, from 1 to 64; whether edges are left out by
+/// What `solve` is asked for: how many workers discard edges and claim triangles, from 1 to 64; whether edges are left out by
 /// the diamond test; and how many sweeps of prices are made where the skeleton does not decompose.
 #[derive(Clone, Copy, Debug, PartialEq, Eq)]
 pub struct Settings {
@@ -37,8 +37,8 @@ pub struct Settings {
 
 /// The report of what a file holds: a good one. Where the skeleton of its live edges decomposes into faces
 /// of at most 128 corners, its method is faces: the triangulation is the best on each face, and the bound
-/// is the lower end of its length. Else its method is flips: the triangulation is found by flips from the
-/// sweep's, and the prices are those of the ascent. `DenseEdges` and `DenseTriangles` come exactly where
+/// is the lower end of its length. Else its method is flips: the triangulation is found by rounds of claimed
+/// flips from the sweep's, and the prices are those of the ascent. `DenseEdges` and `DenseTriangles` come exactly where
 /// the points have too many candidate edges, or empty triangles between them. No part of the report
 /// depends on the number of workers; `gate` is called by them.
 pub fn solve<R: Threads + Sync, G: Gate>(
@@ -63,8 +63,8 @@ pub fn solve<R: Threads + Sync, G: Gate>(
     let net = network_of(rt, alloc, &file.points, &hull, settings.diamond)?;
     let flags = live_flags(rt, alloc, &net, settings.workers, gate)?;
     let skeleton = skeleton(alloc, &file.points, &net, &flags)?;
-    let sweeps = settings.sweeps;
     let solution = Solution::of(
+        rt,
         alloc,
         &file.points,
         &hull,
@@ -72,7 +72,8 @@ pub fn solve<R: Threads + Sync, G: Gate>(
         &flags,
         &skeleton,
         &first,
-        sweeps,
+        settings,
+        gate,
     )?;
     let part = Priced::of(alloc, &net, &flags, skeleton, &solution.prices)?;
     let ends = enclosure(&file.points, &hull, &solution.tris);

@@ -4,11 +4,12 @@ use Rattle.exact_predicates.specs.declared.edge.Edge.{Edge}
 use Rattle.exact_predicates.specs.declared.point.Point.{Point}
 use Rattle.exact_predicates.specs.Candidates.{AreCandidates}
 use Rattle.exact_predicates.specs.Triangulation.{IsEmpty, IsTriangulation}
+use Rattle.flip_finish.proofs.Ordered.{ascending_tris}
 use Rattle.cert_text.specs.declared.report.Report.{Report}
 use Rattle.mwt_tool.specs.Found.{report_of}
 use Rattle.mwt_tool.specs.ReportOf.{IsReportOf}
 use Rattle.mwt_tool.specs.declared.solver.Found.{Found}
-use Rattle.mwt_tool.specs.Solution.{IsSolution}
+use Rattle.mwt_tool.specs.Solution.{HasLiveFlags, IsSolution}
 use Rattle.mwt_tool.proofs.Solutions.{bound_range, of_points, to_network}
 use Rattle.mwt_tool.proofs.Solved.{report_of_steps}
 use Rattle.mwt_tool.proofs.solver.solve.Goals as goal
@@ -17,13 +18,14 @@ pub of-requires-clause-live : goal.of-requires-clause-live
 of-requires-clause-live g c =
     let network = c.in_ok-net.ensures.network in
     let diamond = c.args.settings.now.diamond in
-    record {
+    let live : HasLiveFlags c.in_ok-net.net c.in_ok-flags.flags = record {
       one_each = c.in_ok-flags.ensures.one_each;
       numbers = c.in_ok-flags.ensures.live;
       diamond = diamond;
       edges = c.in_ok-flags.ensures.live_edges diamond
           (to_network (λ (ps : List Point) (hull : List ℕ). AreCandidates ps hull diamond c.in_ok-net.net.edges) network network.candidates);
-    }
+    } in
+    λ _ _. live
 
 pub enclosure-ends-requires-clause-within : goal.enclosure-ends-requires-clause-within
 enclosure-ends-requires-clause-within g c =
@@ -90,8 +92,12 @@ returns-clause-report g c =
       ids = c.in_ok-points.ensures.ids;
       lawful = c.in_ok-points.ensures.valid;
       hull = c.in_ok-hull.ensures.hull;
-      first_is = c.in_ok-hull.ensures.tris;
-      rule = c.in_ok-hull.ensures.rule;
+      first_is = record {
+        triangulation = c.in_ok-hull.ensures.tris;
+        rule = c.in_ok-hull.ensures.rule;
+        ascending = ascending_tris file.points.points c.in_ok-hull.field-0.hull c.in_ok-hull.field-0.tris c.in_ok-points.ensures.valid c.in_ok-hull.ensures.hull
+            c.in_ok-hull.ensures.tris c.in_ok-hull.ensures.ascending;
+      };
       network = c.in_ok-net.ensures.network;
       one_each = c.in_ok-flags.ensures.one_each;
       leaves = c.in_ok-flags.ensures.live_edges;

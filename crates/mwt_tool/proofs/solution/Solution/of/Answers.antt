@@ -4,6 +4,7 @@ use Rattle.exact_predicates.specs.declared.point.Point.{Point}
 use Rattle.exact_predicates.specs.Flip.{IsFlipMinimal}
 use Rattle.exact_predicates.specs.Length.{IsNotLonger}
 use Rattle.exact_predicates.specs.Triangulation.{IsTriangulation, edges}
+use Rattle.flip_claims.specs.Descent.{IsDescendant}
 use Rattle.lmt_network.specs.Flags.{live_edges}
 use Rattle.lmt_network.specs.Skeleton.{IsSkeletonEdge}
 use Rattle.skeleton_faces.specs.Faces.{AreClear, AreFaces}
@@ -14,7 +15,7 @@ use Rattle.face_optimum.specs.Sites.{most_places}
 use Rattle.mwt_tool.proofs.solution.Solution.of.Goals as goal
 
 pub faces-requires : goal.faces-requires
-faces-requires c =
+faces-requires g c =
     let n = c.args.net.now in
     let live = c.requires.live in
     let skeleton = c.args.skeleton.now in
@@ -22,12 +23,12 @@ faces-requires c =
     (AreClear-skeleton n.points n.hull live.diamond (live_edges n c.args.flags.now) skeleton live.edges.closed.candidates c.requires.skeleton)
 
 pub ascent-requires-clause-skeleton : goal.ascent-requires-clause-skeleton
-ascent-requires-clause-skeleton c =
+ascent-requires-clause-skeleton g c =
     let live = live_edges c.args.net.now c.args.flags.now in
     All-weaker (IsSkeletonEdge c.args.net.now.points live) (Contains live) (λ e h. h.member) c.args.skeleton.now c.requires.skeleton.each
 
 pub returns-in-Whole : goal.returns-in-Whole
-returns-in-Whole c =
+returns-in-Whole g c =
     let skeleton = c.args.skeleton.now in
     let faces = c.in_ok-faces.faces in
     let end = subst (IsFaceEnd c.args.net.now c.args.flags.now skeleton faces most_places) c.in-Whole.is c.in_ok-end.ensures in
@@ -55,7 +56,7 @@ returns-in-Whole c =
     }
 
 pub returns : goal.returns
-returns c =
+returns g c =
     let n = c.args.net.now in
     let skeleton = c.args.skeleton.now in
     let faces = c.in_ok-faces.faces in
@@ -83,6 +84,7 @@ returns c =
       };
       by_faces = λ e. absurd (cc e);
       by_flips = λ _. record {
+        descendant = own (λ ps hull. IsDescendant ps hull first tris) flipped.descendant;
         minimal = own (λ ps hull. IsFlipMinimal ps hull tris) flipped.minimal;
         not_longer = own (λ ps hull. IsNotLonger ps (edges hull tris) (edges hull first)) flipped.not_longer;
         ascent = ascent.ascent;
