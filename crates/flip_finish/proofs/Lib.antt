@@ -1,5 +1,6 @@
 pub mod AllSides
 pub mod Attaching
+pub mod CutSides
 pub mod Faces
 pub mod Fitting
 pub mod FlipAnswers
