@@ -45,7 +45,7 @@ record IsOver (ps : List Point) (u v x y : ℕ) : Type 0 where
   pub high : u < y
   pub up : pos 0 ≤ℤ turn ps u v x y
 
-pass_cases : (ps : List Point) (u v x y : ℕ) → (pass ps u v (x, y) ≡ 0) ⊎ ((pass ps u v (x, y) ≡ 1) × (x ≤ u) × (u < y) × (pos 0 <ℤ turn ps u v x y))
+pub pass_cases : (ps : List Point) (u v x y : ℕ) → (pass ps u v (x, y) ≡ 0) ⊎ ((pass ps u v (x, y) ≡ 1) × (x ≤ u) × (u < y) × (pos 0 <ℤ turn ps u v x y))
 unfolding pass
 pass_cases ps u v x y =
     ⊎_elim

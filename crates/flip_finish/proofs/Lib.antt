@@ -12,6 +12,7 @@ pub mod Giving
 pub mod HalfSums
 pub mod HullSums
 pub mod Minimal
+pub mod Once
 pub mod PairedHalves
 pub mod Pairing
 pub mod Quads
