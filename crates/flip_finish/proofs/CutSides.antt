@@ -1,6 +1,6 @@
 -- Sides that pass a cut. The points lie in their order, and the cut is just after the point u, from there on and up. A triangle
 -- has one side more that goes back over the cut than it has sides that go forth over it, where it has the side u to v.
-use Rattle.std.proofs.Common.{◌≡◌, ℕ, ◌+◌, ◌<◌, ◌≤◌, Bool, true, cond, ◌&&◌, ◌==◌, nat_lt, nat_le, List, length, sum_by, ℤ, pos, ◌≤ℤ◌, ◌<ℤ◌, arith, ap, sym, ◌∙◌, refl, subst, ⊎_elim, ◌⊎◌, inl, inr}
+use Rattle.std.proofs.Common.{◌≡◌, ℕ, ◌+◌, ◌<◌, ◌≤◌, true, cond, ◌&&◌, ◌==◌, nat_lt, nat_le, List, length, sum_by, ℤ, pos, ◌≤ℤ◌, ◌<ℤ◌, arith, ap, sym, ◌∙◌, refl, subst, ⊎_elim, ◌⊎◌, inl, inr}
 use Rattle.std.specs.Prelude.{int_lt}
 use Rattle.std.proofs.lemmas.Bool.{and_from, and_parts, cases_Bool, cases_lt, cond-false, cond-true, eq-eqb, le-leb, leb-true, lt-ltb, ltb-true, ne_eqb}
 use Rattle.std.proofs.lemmas.Int.{ints}

@@ -13,6 +13,7 @@ pub mod HalfSums
 pub mod HullSums
 pub mod Minimal
 pub mod Once
+pub mod Ordered
 pub mod PairedHalves
 pub mod Pairing
 pub mod Quads
