@@ -1,24 +1,19 @@
 -- A triangulation has one descendant.
-use Rattle.std.proofs.Common.{◌≡◌, ℕ, ◌<◌, ◌≤◌, List, [], ◌∷◌, Contains, sym, ap, ◌∙◌, refl, subst, arith}
-use Rattle.std.specs.List.Sorted.{IsPermutation}
+use Rattle.std.proofs.Common.{◌≡◌, ℕ, ◌<◌, List, [], ◌∷◌, Contains, sym, ◌∙◌, subst, arith}
 use Rattle.std.proofs.lemmas.List.Sorted.{Contains-permutation, IsPermutation-sym}
 use Rattle.exact_predicates.specs.declared.point.Point.{Point}
 use Rattle.exact_predicates.specs.declared.tri.Tri.{Tri}
 use Rattle.exact_predicates.specs.Candidates.{TriPrecedes}
-use Rattle.exact_predicates.specs.Hull.{IsHull}
-use Rattle.exact_predicates.specs.PointSet.{IsPointSet}
-use Rattle.exact_predicates.specs.Triangulation.{IsTriangulation, edges}
+use Rattle.exact_predicates.specs.Triangulation.{IsTriangulation}
 use Rattle.exact_predicates.proofs.Ascending.{ascending-only}
 use Rattle.flip_finish.specs.Flipping.{Shortens}
-use Rattle.flip_finish.specs.Mesh.{Parts, edge_count}
+use Rattle.flip_finish.specs.Mesh.{Parts}
 use Rattle.flip_finish.specs.Winners.{AreWinners, IsWinner}
-use Rattle.flip_claims.specs.Descent.{IsDescendant, OneDescendant}
+use Rattle.flip_finish.proofs.Ordered.{edge_once}
+use Rattle.flip_claims.specs.Descent.{OneDescendant}
 use Rattle.flip_claims.specs.Rounds.{AreFlipped, AreRounds, IsRound}
 use Rattle.flip_claims.proofs.OneFlip.{one_flip}
 use Rattle.flip_claims.proofs.OneMesh.{one_mesh}
-
-edge_once : (ps : List Point) (hull : List ℕ) (tris : List Tri) (x y : ℕ) → IsPointSet ps → IsHull ps hull → IsTriangulation ps hull tris → x < y → edge_count (edges hull tris) x y ≤ 1
-edge_once ps hull tris x y a b c d = _
 
 -- a mesh has one list of winners
 winners_only : (ps : List Point) (m : Parts) (winners others : List ℕ) → AreWinners ps m winners → AreWinners ps m others → winners ≡ others

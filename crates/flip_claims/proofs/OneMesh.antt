@@ -1,6 +1,6 @@
 -- A triangulation has one ordered mesh.
-use Rattle.std.proofs.Common.{◌≡◌, ◌≢◌, ◌⊎◌, ℕ, zero, suc, ◌+◌, ◌<◌, ◌≤◌, List, [], ◌∷◌, length, get_or, sum_by, AllPairs, Contains, Option, None, Some, sym, ap, ◌∙◌, refl, subst, inl, inr, ⊎_elim, arith}
-use Rattle.std.proofs.lemmas.Bool.{cases_lt, cases_order}
+use Rattle.std.proofs.Common.{◌≡◌, ◌⊎◌, ℕ, zero, suc, ◌+◌, ◌<◌, ◌≤◌, List, [], ◌∷◌, get_or, sum_by, AllPairs, Contains, Option, None, Some, sym, ap, ◌∙◌, refl, subst, inl, inr, ⊎_elim, arith}
+use Rattle.std.proofs.lemmas.Bool.{cases_order}
 use Rattle.std.proofs.lemmas.List.{get_or_default}
 use Rattle.std.proofs.lemmas.List.Sums.{sum_by-cons}
 use Rattle.exact_predicates.specs.declared.edge.Edge.{Edge}
@@ -14,7 +14,7 @@ use Rattle.exact_predicates.proofs.Elements.{sum_by-some}
 use Rattle.exact_predicates.proofs.Equalities.{Edge-equal, Joins-comm, Joins-ends, Joins-only}
 use Rattle.exact_predicates.proofs.Pairs.{hit_same}
 use Rattle.flip_finish.specs.declared.slot.Slot.{Slot}
-use Rattle.flip_finish.specs.Mesh.{HasLeft, IsUpTo, Parts, edge_count, triangle_left}
+use Rattle.flip_finish.specs.Mesh.{IsUpTo, Parts, edge_count, triangle_left}
 use Rattle.flip_finish.specs.Places.{IsAt}
 use Rattle.flip_finish.proofs.Slots.{left_down, left_up}
 use Rattle.flip_finish.proofs.Standing.{IsAt-only}
