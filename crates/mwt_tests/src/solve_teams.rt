@@ -15,6 +15,48 @@ use std::test::Fail;
 use std::thread::Threads;
 use tsplib_points::File;
 
+// Two rings round one centre. The skeleton does not decompose, since none of its edges joins the two.
+const RINGS: [(i64, i64); 18] = [
+    (1000, 0),
+    (885, 465),
+    (568, 823),
+    (121, 993),
+    (-355, 935),
+    (-749, 663),
+    (-971, 239),
+    (-971, -239),
+    (-749, -663),
+    (-355, -935),
+    (121, -993),
+    (568, -823),
+    (885, -465),
+    (49, 35),
+    (-19, 57),
+    (-60, 0),
+    (-19, -57),
+    (49, -35),
+];
+
+// A ring of fourteen, and a point in it that one edge of the skeleton joins to the ring. It does not
+// decompose either.
+const WHEEL: [(i64, i64); 15] = [
+    (1000, 0),
+    (901, 434),
+    (623, 782),
+    (223, 975),
+    (-223, 975),
+    (-623, 782),
+    (-901, 434),
+    (-1000, 0),
+    (-901, -434),
+    (-623, -782),
+    (-223, -975),
+    (223, -975),
+    (623, -782),
+    (901, -434),
+    (133, 0),
+];
+
 const REPORT_OF_FIVE: &str = "mwt 2
 diamond off
 unit 0
@@ -100,6 +142,22 @@ fn reports_by_teams(rt: HostRuntime) -> Result<(), Fail> {
         assert_eq!(rt; report.as_str(), REPORT_OF_FIVE);
         let report = report_by(&rt, alloc, &TWENTY, workers, &OpenGate)?;
         assert_eq!(rt; report.as_str(), twenty.as_str());
+    }
+    Ok(())
+}
+
+#[test]
+fn reports_by_flips_of_teams(rt: HostRuntime) -> Result<(), Fail> {
+    let alloc = rt.alloc();
+    let rings = report_by(&rt, alloc, &RINGS, 1, &OpenGate)?;
+    let wheel = report_by(&rt, alloc, &WHEEL, 1, &OpenGate)?;
+    assert!(rt; rings.as_str().lines().any(|line| line == "method flips"));
+    assert!(rt; wheel.as_str().lines().any(|line| line == "method flips"));
+    for workers in [2, 8, 64] {
+        let report = report_by(&rt, alloc, &RINGS, workers, &OpenGate)?;
+        assert_eq!(rt; report.as_str(), rings.as_str());
+        let report = report_by(&rt, alloc, &WHEEL, workers, &OpenGate)?;
+        assert_eq!(rt; report.as_str(), wheel.as_str());
     }
     Ok(())
 }
