@@ -15,7 +15,7 @@ returns-clause-triangulation g c =
 pub returns-clause-minimal : goal.returns-clause-minimal
 returns-clause-minimal g c =
     let mesh = c.shorten_claimed.ensures.shortened.kept c.args.hull.now c.requires.hull c.in_ok-mesh.ensures.mesh in
-    IsFlipMinimal-permutation _ _ _ _ c.in_ok-tris.ensures.same (c.shorten_claimed.ensures.minimal c.args.hull.now mesh)
+    IsFlipMinimal-permutation _ _ _ _ c.in_ok-tris.ensures.same (c.in_ok-shorten_claimed.ensures.minimal c.args.hull.now mesh)
 
 pub returns-clause-not_longer : goal.returns-clause-not_longer
 returns-clause-not_longer g c =
@@ -30,7 +30,7 @@ returns-clause-descendant g c =
     let ps = c.args.points.now.points in
     let hull = c.args.hull.now in
     let mesh = c.shorten_claimed.ensures.shortened.kept hull c.requires.hull c.in_ok-mesh.ensures.mesh in
-    let rounds = c.shorten_claimed.ensures.rounds in
+    let rounds = c.in_ok-shorten_claimed.ensures.rounds in
     record {
       start = c.in_ok-mesh.mesh;
       last = c.shorten_claimed.new.mesh;
@@ -42,7 +42,7 @@ returns-clause-descendant g c =
         ascending = c.in_ok-mesh.ensures.ascending;
       };
       made = rounds.1;
-      ended = c.shorten_claimed.ensures.none;
+      ended = c.in_ok-shorten_claimed.ensures.none;
       listed = c.in_ok-tris.ensures.same;
       ascending = ascending_tris ps hull c.in_ok-tris.field-0 c.requires.points c.requires.hull
           (IsTriangulation-permutation _ _ _ _ c.in_ok-tris.ensures.same mesh.tris) c.in_ok-tris.ensures.ascending;
