@@ -1,0 +1,6 @@
+//! The diamond theorem, so far as it is proved: of the walk from an edge to a point of its diamond.
+#![tactic(auto)]
+
+mod laws;
+
+pub use laws::disc_laws;
