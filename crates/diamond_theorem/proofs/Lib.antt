@@ -1,3 +1,10 @@
+pub mod Ascents
 pub mod Axis
 pub mod Discs
+pub mod Goals
+pub mod Mirror
+pub mod Once
+pub mod SharedSides
 pub mod Signs
+pub mod Steps
+pub mod Walks

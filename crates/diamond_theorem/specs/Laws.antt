@@ -1,8 +1,14 @@
--- What is proved of the disc over an edge.
-use Rattle.std.specs.Prelude.{pos, ◌≤ℤ◌, ◌<ℤ◌}
+-- What is proved so far on the way to the diamond theorem.
+use Rattle.std.specs.Prelude.{◌⊎◌, ℕ, ◌<◌, List, ◌∷◌, length, pos, ◌≤ℤ◌, ◌<ℤ◌}
 use Rattle.exact_predicates.specs.declared.point.Point.{Point}
+use Rattle.exact_predicates.specs.declared.tri.Tri.{Tri}
+use Rattle.exact_predicates.specs.Hull.{IsHull}
 use Rattle.exact_predicates.specs.Plane.{orient, IsInClosedTriangle, IsInLeftDiamond}
+use Rattle.exact_predicates.specs.PointSet.{IsPointSet, point_at}
+use Rattle.exact_predicates.specs.Triangulation.{IsTriangulation}
 use Rattle.diamond_theorem.specs.Discs.{power, IsInDisc}
+use Rattle.diamond_theorem.specs.Steps.{IsStep}
+use Rattle.diamond_theorem.specs.Walks.{AreCrossedOnce, HasTriangle, Walk, steps_after}
 
 -- The diamond of an edge lies in the disc over it.
 abbrev pub DiamondsAreInDiscs : Type 0
@@ -14,3 +20,28 @@ abbrev pub DiscsAreConvex : Type 0
 DiscsAreConvex =
     (a b c d e z : Point) → power a b c ≤ℤ pos 0 → power a b d ≤ℤ pos 0 → IsInDisc a b e
     → IsInClosedTriangle c d e z → pos 0 <ℤ orient c d z → IsInDisc a b z
+
+-- one of two facts holds, and the other does not
+abbrev pub ExactlyOne : Type 0 → Type 0 → Type 0
+ExactlyOne P Q = (P × (¬ Q)) ⊎ (Q × (¬ P))
+
+-- A walk from ab to p goes on from each step lr whose triangle lrz has not p in it, by exactly one of its two other sides, where
+-- z is not in the triangle abp.
+abbrev pub StepsGoOn : Type 0
+StepsGoOn =
+    (a b p l r z : Point) → pos 0 <ℤ orient a b p → IsStep a b p l r → pos 0 <ℤ orient l r z
+    → ¬ IsInClosedTriangle a b p z → ¬ IsInClosedTriangle l r z p
+    → ExactlyOne (IsStep a b p z r) (IsStep a b p l z)
+
+-- Where a point lies in the left diamond of a side ab of a triangle, there is a walk from ab.
+abbrev pub WalksExist : Type 0
+WalksExist =
+    (ps : List Point) (hull : List ℕ) (tris : List Tri) (a b z r : ℕ)
+    → IsPointSet ps → IsHull ps hull → IsTriangulation ps hull tris → HasTriangle tris (a, b) z
+    → r < length ps → IsInLeftDiamond (point_at ps a) (point_at ps b) (point_at ps r) → Walk ps tris a b
+
+-- A walk crosses no triangle twice.
+abbrev pub WalksCrossOnce : Type 0
+WalksCrossOnce =
+    (ps : List Point) (hull : List ℕ) (tris : List Tri) (a b : ℕ) → IsTriangulation ps hull tris
+    → (w : Walk ps tris a b) → AreCrossedOnce ((a, b) ∷ steps_after (a, b) w.corners)

@@ -1,2 +1,4 @@
 pub mod Discs
 pub mod Laws
+pub mod Steps
+pub mod Walks

@@ -1,9 +1,19 @@
 // The laws of the crate, as contracts of functions that do nothing.
-ghost use Rattle.diamond_theorem.specs.Laws.{DiamondsAreInDiscs, DiscsAreConvex};
+ghost use Rattle.diamond_theorem.specs.Laws.{DiamondsAreInDiscs, DiscsAreConvex, StepsGoOn, WalksCrossOnce, WalksExist};
 
 /// The laws of the disc over an edge, which has the edge for its diameter. The diamond of the edge lies
 /// in it, and it is convex. It does nothing: its contract says them.
 pub fn disc_laws()
     ensures diamond { DiamondsAreInDiscs }
     ensures convex { DiscsAreConvex }
+{}
+
+/// The laws of the walk from an edge to a point of its diamond. From each step it goes on by exactly one
+/// of the two other sides of the triangle there. Where a point lies in the left diamond of a side of a
+/// triangle there is a walk, which ends at the first corner in the disc over the side. A walk crosses no
+/// triangle twice. It does nothing: its contract says them.
+pub fn walk_laws()
+    ensures goes_on { StepsGoOn }
+    ensures exists { WalksExist }
+    ensures once { WalksCrossOnce }
 {}

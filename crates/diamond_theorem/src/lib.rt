@@ -3,4 +3,4 @@
 
 mod laws;
 
-pub use laws::disc_laws;
+pub use laws::{disc_laws, walk_laws};
