@@ -1,10 +1,15 @@
+pub mod Along
 pub mod Ascents
 pub mod Axis
 pub mod Discs
 pub mod Goals
+pub mod Heights
+pub mod Low
 pub mod Mirror
+pub mod Obtuse
 pub mod Once
 pub mod SharedSides
+pub mod Sights
 pub mod Signs
 pub mod Steps
 pub mod Walks

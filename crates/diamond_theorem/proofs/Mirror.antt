@@ -2,11 +2,14 @@
 use Rattle.std.proofs.Common.{◌≡◌, ℕ, ◌+◌, pos, ◌-ℤ◌, [], ◌∷◌, arith, ap, ⊎_elim, inl, inr}
 use Rattle.std.proofs.lemmas.Int.{ints}
 use Rattle.exact_predicates.specs.declared.point.Point.{Point}
-use Rattle.exact_predicates.specs.Plane.{orient, dot, IsInClosedTriangle}
+use Rattle.exact_predicates.specs.Plane.{orient, dot, IsInClosedTriangle, IsInLeftDiamond}
+use Rattle.exact_predicates.proofs.Between.{dot_comm}
+use Rattle.exact_predicates.proofs.Blocking.{dot_parts}
 use Rattle.exact_predicates.proofs.Orientation.{coordinates, orient_term, orient_swapped}
 use Rattle.exact_predicates.proofs.Ring.{Term, var, num, plus, less, times, ring}
+use Rattle.diamond_theorem.specs.Discs.{power}
 use Rattle.diamond_theorem.specs.Steps.{IsOnLeft, IsOnRight, IsStep}
-use Rattle.diamond_theorem.proofs.Axis.{dot_term}
+use Rattle.diamond_theorem.proofs.Axis.{along, dot_term}
 
 abbrev pub mirror : Point → Point
 mirror p = record { id = p.id; x = p.x; y = pos 0 -ℤ p.y }
@@ -64,4 +67,18 @@ triangle_mirror a b c p i =
       left_of_ab = rw (orient_mirror a b p) at i.left_of_ab;
       left_of_bc = rw (orient_mirror b c p) at i.left_of_ca;
       left_of_ca = rw (orient_mirror c a p) at i.left_of_bc;
+    }
+
+pub power_mirror : (a b z : Point) → power (mirror b) (mirror a) (mirror z) ≡ power a b z
+power_mirror a b z = rw (dot_mirror z b a) (dot_comm z b a)
+
+pub along_mirror : (a b o z : Point) → along (mirror b) (mirror a) (mirror o) (mirror z) ≡ along a b z o
+along_mirror a b o z = omega (arith, ints, dot_mirror b a o, dot_mirror b a z, dot_parts a b o, dot_parts a b z)
+
+pub IsInLeftDiamond-mirror : (a b p : Point) → IsInLeftDiamond a b p → IsInLeftDiamond (mirror b) (mirror a) (mirror p)
+IsInLeftDiamond-mirror a b p h =
+    record {
+      left = rw (orient_mirror a b p) h.left;
+      angle_at_p = rw (orient_mirror a b p, dot_mirror b a p) h.angle_at_q;
+      angle_at_q = rw (orient_mirror a b p, dot_mirror a b p) h.angle_at_p;
     }

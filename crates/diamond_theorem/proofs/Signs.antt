@@ -7,7 +7,7 @@ use Rattle.exact_predicates.proofs.IntSigns.{mul-nonneg, mul-pos}
 use Rattle.exact_predicates.proofs.Ring.{var, num, less, times, ring}
 
 -- the opposite of a factor
-times_opposite : (a b : ℤ) → a *ℤ (pos 0 -ℤ b) ≡ pos 0 -ℤ (a *ℤ b)
+pub times_opposite : (a b : ℤ) → a *ℤ (pos 0 -ℤ b) ≡ pos 0 -ℤ (a *ℤ b)
 times_opposite a b = ring (a ∷ b ∷ []) (times (var 0) (less (num (pos 0)) (var 1))) (less (num (pos 0)) (times (var 0) (var 1))) (omega arith)
 
 pub mul-nonpos : (a b : ℤ) → pos 0 ≤ℤ a → b ≤ℤ pos 0 → (a *ℤ b) ≤ℤ pos 0

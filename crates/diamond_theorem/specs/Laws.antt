@@ -3,11 +3,11 @@ use Rattle.std.specs.Prelude.{◌⊎◌, ℕ, ◌<◌, List, ◌∷◌, length, 
 use Rattle.exact_predicates.specs.declared.point.Point.{Point}
 use Rattle.exact_predicates.specs.declared.tri.Tri.{Tri}
 use Rattle.exact_predicates.specs.Hull.{IsHull}
-use Rattle.exact_predicates.specs.Plane.{orient, IsInClosedTriangle, IsInLeftDiamond}
+use Rattle.exact_predicates.specs.Plane.{d2, dot, orient, IsInClosedTriangle, IsInLeftDiamond}
 use Rattle.exact_predicates.specs.PointSet.{IsPointSet, point_at}
 use Rattle.exact_predicates.specs.Triangulation.{IsTriangulation}
 use Rattle.diamond_theorem.specs.Discs.{power, IsInDisc}
-use Rattle.diamond_theorem.specs.Steps.{IsStep}
+use Rattle.diamond_theorem.specs.Steps.{IsLowStep, IsRound, IsStep}
 use Rattle.diamond_theorem.specs.Walks.{AreCrossedOnce, HasTriangle, Walk, steps_after}
 
 -- The diamond of an edge lies in the disc over it.
@@ -45,3 +45,21 @@ abbrev pub WalksCrossOnce : Type 0
 WalksCrossOnce =
     (ps : List Point) (hull : List ℕ) (tris : List Tri) (a b : ℕ) → IsTriangulation ps hull tris
     → (w : Walk ps tris a b) → AreCrossedOnce ((a, b) ∷ steps_after (a, b) w.corners)
+
+-- A step with no end in the disc goes round each point of the disc to its left.
+abbrev pub StepsGoRound : Type 0
+StepsGoRound =
+    (a b p q l r : Point) → IsInLeftDiamond a b p → IsStep a b p l r → ¬ IsInDisc a b l → ¬ IsInDisc a b r
+    → IsInDisc a b q → pos 0 <ℤ orient l r q → IsRound a b q l r
+
+-- A step with no end in the disc is low.
+abbrev pub StepsAreLow : Type 0
+StepsAreLow =
+    (a b p l r : Point) → IsInLeftDiamond a b p → IsStep a b p l r → ¬ IsInDisc a b l → ¬ IsInDisc a b r → IsLowStep a b l r
+
+-- A step of the walk to a point of the disc is seen from there at an obtuse angle, so it is longer than the point is far from
+-- its ends.
+abbrev pub StepsAreSeenObtuse : Type 0
+StepsAreSeenObtuse =
+    (a b q l r : Point) → pos 0 <ℤ orient a b q → IsInDisc a b q → IsStep a b q l r
+    → (dot q l r <ℤ pos 0) × (d2 q l < d2 l r) × (d2 q r < d2 l r)

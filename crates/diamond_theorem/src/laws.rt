@@ -1,5 +1,5 @@
 // The laws of the crate, as contracts of functions that do nothing.
-ghost use Rattle.diamond_theorem.specs.Laws.{DiamondsAreInDiscs, DiscsAreConvex, StepsGoOn, WalksCrossOnce, WalksExist};
+ghost use Rattle.diamond_theorem.specs.Laws.{DiamondsAreInDiscs, DiscsAreConvex, StepsAreLow, StepsAreSeenObtuse, StepsGoOn, StepsGoRound, WalksCrossOnce, WalksExist};
 
 /// The laws of the disc over an edge, which has the edge for its diameter. The diamond of the edge lies
 /// in it, and it is convex. It does nothing: its contract says them.
@@ -16,4 +16,14 @@ pub fn walk_laws()
     ensures goes_on { StepsGoOn }
     ensures exists { WalksExist }
     ensures once { WalksCrossOnce }
+{}
+
+/// The laws of single steps of a walk. One with no end in the disc goes round each point of the disc to
+/// its left. It is seen from there at an obtuse angle, so it is longer than the point is far from its
+/// ends. It is low over the edge: its ends lie beside those of the edge. It does nothing: its contract
+/// says them.
+pub fn step_laws()
+    ensures round { StepsGoRound }
+    ensures obtuse { StepsAreSeenObtuse }
+    ensures low { StepsAreLow }
 {}
