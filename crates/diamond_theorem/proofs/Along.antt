@@ -1,5 +1,5 @@
 -- Where points lie along an edge: the left of a wedge comes before its apex, and the right after it.
-use Rattle.std.proofs.Common.{pos, ◌*ℤ◌, ◌≤ℤ◌, ◌<ℤ◌, arith, sym, subst, ⊎_elim}
+use Rattle.std.proofs.Common.{pos, ◌<ℤ◌, arith, sym, subst, ⊎_elim}
 use Rattle.std.proofs.lemmas.Int.{ints}
 use Rattle.exact_predicates.specs.declared.point.Point.{Point}
 use Rattle.exact_predicates.specs.Plane.{orient, dot, IsInLeftDiamond}

@@ -1,11 +1,11 @@
 -- Where a point lies from a step, by how far it lies along the edge and across it.
-use Rattle.std.proofs.Common.{◌≡◌, ℤ, pos, ◌+ℤ◌, ◌-ℤ◌, ◌*ℤ◌, ◌<ℤ◌, [], ◌∷◌, arith}
+use Rattle.std.proofs.Common.{◌≡◌, ℤ, pos, ◌+ℤ◌, ◌-ℤ◌, ◌*ℤ◌, [], ◌∷◌, arith}
 use Rattle.std.proofs.lemmas.Int.{ints}
 use Rattle.exact_predicates.specs.declared.point.Point.{Point}
 use Rattle.exact_predicates.specs.Plane.{orient, dot}
 use Rattle.exact_predicates.proofs.Barycentric.{weighed}
 use Rattle.exact_predicates.proofs.Blocking.{dot_parts}
-use Rattle.exact_predicates.proofs.Orientation.{coordinates, orient_term, orient_turned, orient_swapped, orient_swapped_last}
+use Rattle.exact_predicates.proofs.Orientation.{coordinates, orient_term, orient_swapped_last}
 use Rattle.exact_predicates.proofs.Ring.{var, num, plus, less, times, ring}
 use Rattle.diamond_theorem.proofs.Axis.{across_at, along, dot_as_orient, dot_term, orient_five}
 

@@ -2,12 +2,14 @@ pub mod Along
 pub mod Ascents
 pub mod Axis
 pub mod Discs
+pub mod Fans
 pub mod Goals
 pub mod Heights
 pub mod Low
 pub mod Mirror
 pub mod Obtuse
 pub mod Once
+pub mod RoundWalks
 pub mod SharedSides
 pub mod Sights
 pub mod Signs

@@ -6,11 +6,11 @@ use Rattle.exact_predicates.specs.Plane.{orient, dot, IsInLeftDiamond}
 use Rattle.exact_predicates.proofs.Barycentric.{weighed}
 use Rattle.exact_predicates.proofs.Blocking.{dot_parts}
 use Rattle.exact_predicates.proofs.IntSigns.{mul-nonneg, mul-pos, nonneg-from-mul, pos-from-mul}
-use Rattle.exact_predicates.proofs.Orientation.{orient_turned, orient_swapped, orient_swapped_last, orient_return, orient_last_twice}
+use Rattle.exact_predicates.proofs.Orientation.{orient_swapped, orient_return, orient_last_twice}
 use Rattle.exact_predicates.proofs.Ring.{var, num, plus, less, times, ring}
 use Rattle.diamond_theorem.specs.Discs.{IsInDisc, power}
 use Rattle.diamond_theorem.specs.Laws.{StepsAreLow}
-use Rattle.diamond_theorem.specs.Steps.{IsStep, IsLow, IsLowStep}
+use Rattle.diamond_theorem.specs.Steps.{IsStep, IsLow}
 use Rattle.diamond_theorem.proofs.Along.{base_positive, diamond_between, left_before, right_after}
 use Rattle.diamond_theorem.proofs.Axis.{across_at, along, dot_as_orient, dot_start, orient_five}
 use Rattle.diamond_theorem.proofs.Discs.{dot_square, power_by_parts}

@@ -1,14 +1,13 @@
 -- A step of the walk to a point q of the disc is seen from q at an obtuse angle, so it is longer than q is far from its ends.
-use Rattle.std.proofs.Common.{◌≡◌, ℕ, ◌*◌, ◌<◌, ℤ, pos, negsuc, ◌+ℤ◌, ◌-ℤ◌, ◌*ℤ◌, ◌≤ℤ◌, ◌<ℤ◌, unsigned_abs, arith, [], ◌∷◌}
+use Rattle.std.proofs.Common.{◌≡◌, ◌*◌, ℤ, pos, negsuc, ◌+ℤ◌, ◌-ℤ◌, ◌*ℤ◌, ◌<ℤ◌, unsigned_abs, arith, [], ◌∷◌}
 use Rattle.std.proofs.lemmas.Int.{ints}
 use Rattle.exact_predicates.specs.declared.point.Point.{Point}
 use Rattle.exact_predicates.specs.Plane.{orient, dot, d2}
-use Rattle.exact_predicates.proofs.Barycentric.{weighed}
 use Rattle.exact_predicates.proofs.Between.{dot_comm}
 use Rattle.exact_predicates.proofs.Gaps.{d2_is}
 use Rattle.exact_predicates.proofs.IntSigns.{mul-nonneg, nonneg-from-mul}
 use Rattle.exact_predicates.proofs.Orientation.{coordinates, orient_swapped, orient_turned}
-use Rattle.exact_predicates.proofs.Ring.{var, num, plus, times, ring}
+use Rattle.exact_predicates.proofs.Ring.{num, plus, times, ring}
 use Rattle.diamond_theorem.specs.Discs.{IsInDisc}
 use Rattle.diamond_theorem.specs.Laws.{StepsAreSeenObtuse}
 use Rattle.diamond_theorem.specs.Steps.{IsStep}

@@ -1,20 +1,19 @@
 -- A step under a point q of the disc goes round q: it is a step of the walk to q, and q lies between its ends along the edge.
-use Rattle.std.proofs.Common.{◌≡◌, pos, ◌*ℤ◌, ◌≤ℤ◌, ◌<ℤ◌, arith, sym, subst, ⊎_elim, inl, inr}
+use Rattle.std.proofs.Common.{pos, ◌≤ℤ◌, ◌<ℤ◌, arith, sym, subst, ⊎_elim, inl, inr}
 use Rattle.std.proofs.lemmas.Int.{ints, by_lt_z}
 use Rattle.exact_predicates.specs.declared.point.Point.{Point}
-use Rattle.exact_predicates.specs.Plane.{orient, dot, IsInLeftDiamond}
-use Rattle.exact_predicates.proofs.Between.{dot_comm}
+use Rattle.exact_predicates.specs.Plane.{orient, IsInLeftDiamond}
 use Rattle.exact_predicates.proofs.Blocking.{dot_parts}
 use Rattle.exact_predicates.proofs.IntSigns.{mul-nonneg, mul-pos}
 use Rattle.exact_predicates.proofs.Orientation.{orient_turned, orient_swapped, orient_swapped_last, orient_return}
-use Rattle.diamond_theorem.specs.Discs.{IsInDisc, power}
+use Rattle.diamond_theorem.specs.Discs.{IsInDisc}
 use Rattle.diamond_theorem.specs.Laws.{StepsGoRound}
 use Rattle.diamond_theorem.specs.Steps.{IsOnLeft, IsOnRight, IsStep, IsRound}
-use Rattle.diamond_theorem.proofs.Axis.{along, orient_along, barycentric_along, dot_start}
+use Rattle.diamond_theorem.proofs.Axis.{along, orient_along, dot_start}
 use Rattle.diamond_theorem.proofs.Discs.{diamond_in_disc, disc_between, disc_convex, power_start}
 use Rattle.diamond_theorem.proofs.Mirror.{mirror, orient_mirror, power_mirror, along_mirror, IsInLeftDiamond-mirror, IsStep-mirror}
 use Rattle.diamond_theorem.proofs.Along.{base_positive, left_before, right_after}
-use Rattle.diamond_theorem.proofs.Signs.{mul-nonpos, mul-neg, mul-both_nonpos, mul-both_neg, mul-zero, neg-from-neg, pos-from-neg, pos-from-pos}
+use Rattle.diamond_theorem.proofs.Signs.{mul-nonpos, mul-neg, mul-both_nonpos, mul-both_neg, neg-from-neg, pos-from-neg, pos-from-pos}
 
 -- a step of the walk to p, with no end in the disc, that has the point q of the disc on its left
 pub record IsUnder (a b p q l r : Point) : Type 0 where
@@ -25,7 +24,7 @@ pub record IsUnder (a b p q l r : Point) : Type 0 where
   pub q_in : IsInDisc a b q
   pub ahead : pos 0 <ℤ orient l r q
 
-IsUnder-mirror : (a b p q l r : Point) → IsUnder a b p q l r → IsUnder (mirror b) (mirror a) (mirror p) (mirror q) (mirror r) (mirror l)
+pub IsUnder-mirror : (a b p q l r : Point) → IsUnder a b p q l r → IsUnder (mirror b) (mirror a) (mirror p) (mirror q) (mirror r) (mirror l)
 IsUnder-mirror a b p q l r u =
     record {
       diamond = IsInLeftDiamond-mirror a b p u.diamond;

@@ -1,5 +1,5 @@
 -- What is proved so far on the way to the diamond theorem.
-use Rattle.std.specs.Prelude.{◌⊎◌, ℕ, ◌<◌, List, ◌∷◌, length, pos, ◌≤ℤ◌, ◌<ℤ◌}
+use Rattle.std.specs.Prelude.{◌⊎◌, ℕ, ◌<◌, List, ◌∷◌, length, All, pos, ◌≤ℤ◌, ◌<ℤ◌}
 use Rattle.exact_predicates.specs.declared.point.Point.{Point}
 use Rattle.exact_predicates.specs.declared.tri.Tri.{Tri}
 use Rattle.exact_predicates.specs.Hull.{IsHull}
@@ -7,6 +7,7 @@ use Rattle.exact_predicates.specs.Plane.{d2, dot, orient, IsInClosedTriangle, Is
 use Rattle.exact_predicates.specs.PointSet.{IsPointSet, point_at}
 use Rattle.exact_predicates.specs.Triangulation.{IsTriangulation}
 use Rattle.diamond_theorem.specs.Discs.{power, IsInDisc}
+use Rattle.diamond_theorem.specs.Fans.{HasFlip, IsFan, IsInward, last_of}
 use Rattle.diamond_theorem.specs.Steps.{IsLowStep, IsRound, IsStep}
 use Rattle.diamond_theorem.specs.Walks.{AreCrossedOnce, HasTriangle, Walk, steps_after}
 
@@ -46,6 +47,15 @@ WalksCrossOnce =
     (ps : List Point) (hull : List ℕ) (tris : List Tri) (a b : ℕ) → IsTriangulation ps hull tris
     → (w : Walk ps tris a b) → AreCrossedOnce ((a, b) ∷ steps_after (a, b) w.corners)
 
+-- Each step of a walk is low, and goes round the last corner.
+abbrev pub WalksGoRound : Type 0
+WalksGoRound =
+    (ps : List Point) (hull : List ℕ) (tris : List Tri) (a b : ℕ) → IsTriangulation ps hull tris
+    → (w : Walk ps tris a b)
+    → All (λ s. IsLowStep (point_at ps a) (point_at ps b) (point_at ps s.0) (point_at ps s.1)
+    × IsRound (point_at ps a) (point_at ps b) (point_at ps w.last) (point_at ps s.0) (point_at ps s.1))
+    ((a, b) ∷ steps_after (a, b) w.corners)
+
 -- A step with no end in the disc goes round each point of the disc to its left.
 abbrev pub StepsGoRound : Type 0
 StepsGoRound =
@@ -63,3 +73,11 @@ abbrev pub StepsAreSeenObtuse : Type 0
 StepsAreSeenObtuse =
     (a b q l r : Point) → pos 0 <ℤ orient a b q → IsInDisc a b q → IsStep a b q l r
     → (dot q l r <ℤ pos 0) × (d2 q l < d2 l r) × (d2 q r < d2 l r)
+
+-- A fan at v of points that are not farther from the middle of ab than v has an inner edge to flip, where some line ef parts its
+-- second point from v, from its first point and from its last one.
+abbrev pub FansFlip : Type 0
+FansFlip =
+    (a b e f v u r : Point) (rest : List Point) → IsFan v u (r ∷ rest) → All (IsInward a b v) (u ∷ r ∷ rest)
+    → pos 0 ≤ℤ orient e f u → pos 0 ≤ℤ orient e f (last_of r rest) → pos 0 <ℤ orient e f v → orient e f r <ℤ pos 0
+    → HasFlip v (u ∷ r ∷ rest)

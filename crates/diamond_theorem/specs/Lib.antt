@@ -1,4 +1,5 @@
 pub mod Discs
+pub mod Fans
 pub mod Laws
 pub mod Steps
 pub mod Walks

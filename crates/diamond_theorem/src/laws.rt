@@ -1,5 +1,5 @@
 // The laws of the crate, as contracts of functions that do nothing.
-ghost use Rattle.diamond_theorem.specs.Laws.{DiamondsAreInDiscs, DiscsAreConvex, StepsAreLow, StepsAreSeenObtuse, StepsGoOn, StepsGoRound, WalksCrossOnce, WalksExist};
+ghost use Rattle.diamond_theorem.specs.Laws.{DiamondsAreInDiscs, DiscsAreConvex, FansFlip, StepsAreLow, StepsAreSeenObtuse, StepsGoOn, StepsGoRound, WalksCrossOnce, WalksExist, WalksGoRound};
 
 /// The laws of the disc over an edge, which has the edge for its diameter. The diamond of the edge lies
 /// in it, and it is convex. It does nothing: its contract says them.
@@ -11,11 +11,12 @@ pub fn disc_laws()
 /// The laws of the walk from an edge to a point of its diamond. From each step it goes on by exactly one
 /// of the two other sides of the triangle there. Where a point lies in the left diamond of a side of a
 /// triangle there is a walk, which ends at the first corner in the disc over the side. A walk crosses no
-/// triangle twice. It does nothing: its contract says them.
+/// triangle twice, and each of its steps goes round that corner. It does nothing: its contract says them.
 pub fn walk_laws()
     ensures goes_on { StepsGoOn }
     ensures exists { WalksExist }
     ensures once { WalksCrossOnce }
+    ensures round { WalksGoRound }
 {}
 
 /// The laws of single steps of a walk. One with no end in the disc goes round each point of the disc to
@@ -26,4 +27,10 @@ pub fn step_laws()
     ensures round { StepsGoRound }
     ensures obtuse { StepsAreSeenObtuse }
     ensures low { StepsAreLow }
+{}
+
+/// The law of the fan at the corner of a walk that is farthest from the middle of the edge: it has an
+/// inner edge that can be flipped. It does nothing: its contract says it.
+pub fn fan_laws()
+    ensures { FansFlip }
 {}
