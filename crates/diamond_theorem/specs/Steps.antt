@@ -27,8 +27,8 @@ pub record IsRound (a b q l r : Point) : Type 0 where
   pub after : dot a b l <ℤ dot a b q
   pub before : dot a b q <ℤ dot a b r
 
--- How a point lies at one end of an edge: near and far are the parts of the edge below it, from this end and from the other one, and
--- up is its height over the edge, each times the length of the edge. It lies within 16/41 of the edge from this end, lower than the
+-- How a point lies at one end of an edge: near and far are the parts of the edge below it, from this end and from the other
+-- one, and up is its height, each times the length of the edge. It lies within 16/41 of the edge from this end, lower than the
 -- line with slope 4/5 from the other end, and not below the edge and its continuation with slope 4/5.
 pub record IsLow (near far up : ℤ) : Type 0 where
   pub beside : (pos 25 *ℤ near) <ℤ (pos 16 *ℤ far)
