@@ -5,7 +5,9 @@ pub mod Discs
 pub mod Fans
 pub mod Goals
 pub mod Heights
+pub mod Long
 pub mod Low
+pub mod Middle
 pub mod Mirror
 pub mod Obtuse
 pub mod Once

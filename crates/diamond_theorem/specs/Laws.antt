@@ -1,5 +1,5 @@
 -- What is proved so far on the way to the diamond theorem.
-use Rattle.std.specs.Prelude.{◌⊎◌, ℕ, ◌<◌, List, ◌∷◌, length, All, pos, ◌≤ℤ◌, ◌<ℤ◌}
+use Rattle.std.specs.Prelude.{◌≡◌, ◌⊎◌, ℕ, ◌+◌, ◌*◌, ◌<◌, List, ◌∷◌, length, All, pos, ◌≤ℤ◌, ◌<ℤ◌}
 use Rattle.exact_predicates.specs.declared.point.Point.{Point}
 use Rattle.exact_predicates.specs.declared.tri.Tri.{Tri}
 use Rattle.exact_predicates.specs.Hull.{IsHull}
@@ -73,6 +73,19 @@ abbrev pub StepsAreSeenObtuse : Type 0
 StepsAreSeenObtuse =
     (a b q l r : Point) → pos 0 <ℤ orient a b q → IsInDisc a b q → IsStep a b q l r
     → (dot q l r <ℤ pos 0) × (d2 q l < d2 l r) × (d2 q r < d2 l r)
+
+-- A step with no end in the disc is longer than 3/5 of the edge.
+abbrev pub StepsAreLong : Type 0
+StepsAreLong =
+    (a b p l r : Point) → IsInLeftDiamond a b p → IsStep a b p l r → ¬ IsInDisc a b l → ¬ IsInDisc a b r
+    → 9 * d2 a b < 25 * d2 l r
+
+-- It is longer than the way from each of its ends to the middle of the edge: squared, by more than 11/100 of the edge's square.
+-- (Four times the square of the way from v is twice the sum of those from v to a and to b, less the square of ab.)
+abbrev pub StepsAreLongerThanMiddle : Type 0
+StepsAreLongerThanMiddle =
+    (a b p l r v : Point) → IsInLeftDiamond a b p → IsStep a b p l r → ¬ IsInDisc a b l → ¬ IsInDisc a b r → (v ≡ l) ⊎ (v ≡ r)
+    → 25 * (d2 a v + d2 v b) < 50 * d2 l r + 7 * d2 a b
 
 -- A fan at v of points that are not farther from the middle of ab than v has an inner edge to flip, where some line ef parts its
 -- second point from v, from its first point and from its last one.

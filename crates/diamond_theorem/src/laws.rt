@@ -1,5 +1,5 @@
 // The laws of the crate, as contracts of functions that do nothing.
-ghost use Rattle.diamond_theorem.specs.Laws.{DiamondsAreInDiscs, DiscsAreConvex, FansFlip, StepsAreLow, StepsAreSeenObtuse, StepsGoOn, StepsGoRound, WalksCrossOnce, WalksExist, WalksGoRound};
+ghost use Rattle.diamond_theorem.specs.Laws.{DiamondsAreInDiscs, DiscsAreConvex, FansFlip, StepsAreLong, StepsAreLongerThanMiddle, StepsAreLow, StepsAreSeenObtuse, StepsGoOn, StepsGoRound, WalksCrossOnce, WalksExist, WalksGoRound};
 
 /// The laws of the disc over an edge, which has the edge for its diameter. The diamond of the edge lies
 /// in it, and it is convex. It does nothing: its contract says them.
@@ -27,6 +27,13 @@ pub fn step_laws()
     ensures round { StepsGoRound }
     ensures obtuse { StepsAreSeenObtuse }
     ensures low { StepsAreLow }
+{}
+
+/// The laws of how long steps are. One with no end in the disc is longer than 3/5 of the edge, and than
+/// the way from each of its ends to the middle of the edge. It does nothing: its contract says them.
+pub fn length_laws()
+    ensures long { StepsAreLong }
+    ensures longer_than_middle { StepsAreLongerThanMiddle }
 {}
 
 /// The law of the fan at the corner of a walk that is farthest from the middle of the edge: it has an
