@@ -89,7 +89,7 @@ foot_before a b l r o =
     let after = foot_after (mirror b) (mirror a) (mirror r) (mirror l) (IsOver-mirror a b l r o) in
     omega (arith, ints, dot_mirror r l a, dot_mirror r l b)
 
--- 25 t^2 < 16 s e where 5 |t| < 4 d and d^2 is at most s e
+-- 25 t^2 < 16 m where -5 t is not negative and less than 4 d, and d^2 is at most m
 low_square : (t d m : ℤ) → t ≤ℤ pos 0 → (pos 5 *ℤ (pos 0 -ℤ t)) <ℤ (pos 4 *ℤ d) → (d *ℤ d) ≤ℤ m → (pos 25 *ℤ (t *ℤ t)) <ℤ (pos 16 *ℤ m)
 low_square t d m ht low hm =
     let p = mul-pos ((pos 4 *ℤ d) +ℤ (pos 5 *ℤ t)) ((pos 4 *ℤ d) -ℤ (pos 5 *ℤ t)) (omega (arith, ints)) (omega (arith, ints)) in
@@ -141,7 +141,7 @@ long_numbers s d m n u w t hu hw sum hm hn eu ew low =
         (less (times (num (pos 25)) (times (var 0) (var 0))) (plus (times (num (pos 9)) (times (var 0) (var 1))) (times (num (pos 25)) (times (var 0) (var 2)))))
         (omega arith)
 
--- the square of lr is more than 9/25 of that of the edge and the power of its left end
+-- the square of lr is more than 9/25 of that of ab, and the power of l, together
 pub long_left : (a b l r : Point) → IsOver a b l r → ((pos 9 *ℤ dot a b b) +ℤ (pos 25 *ℤ power a b l)) <ℤ (pos 25 *ℤ dot l r r)
 long_left a b l r o =
     long_numbers (dot a b b) (dot l r r) (power a b l) (power a b r) (ways a b l r) (ways a b r l) (turns a b l r *ℤ turns a b l r)
