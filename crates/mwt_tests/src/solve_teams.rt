@@ -10,6 +10,7 @@ use exact_predicates::Diamond;
 use mwt_base::{Gate, MeetGate, OpenGate, Status, SureSink, SureSource};
 use mwt_tool::{Settings, run_in_memory, solve};
 use std::alloc::Global;
+use std::process::Abort;
 use std::sync::atomic::Ordering;
 use std::test::Fail;
 use std::thread::Threads;
@@ -148,17 +149,24 @@ fn reports_by_teams(rt: HostRuntime) -> Result<(), Fail> {
 
 #[test]
 fn reports_by_flips_of_teams(rt: HostRuntime) -> Result<(), Fail> {
-    let alloc = rt.alloc();
-    let rings = report_by(&rt, alloc, &RINGS, 1, &OpenGate)?;
-    let wheel = report_by(&rt, alloc, &WHEEL, 1, &OpenGate)?;
-    assert!(rt; rings.as_str().lines().any(|line| line == "method flips"));
-    assert!(rt; wheel.as_str().lines().any(|line| line == "method flips"));
-    for workers in [2, 8, 64] {
-        let report = report_by(&rt, alloc, &RINGS, workers, &OpenGate)?;
-        assert_eq!(rt; report.as_str(), rings.as_str());
-        let report = report_by(&rt, alloc, &WHEEL, workers, &OpenGate)?;
-        assert_eq!(rt; report.as_str(), wheel.as_str());
-    }
+    flips_by_teams(&rt, rt.alloc(), &RINGS)?;
+    flips_by_teams(&rt, rt.alloc(), &WHEEL)
+}
+
+// The method is flips, and the report of one worker is that of two, of eight and of sixty-four.
+fn flips_by_teams<R: Threads + Sync + Abort>(
+    rt: &R,
+    alloc: Global,
+    places: &[(i64, i64)],
+) -> Result<(), Fail> {
+    let alone = report_by(rt, alloc, places, 1, &OpenGate)?;
+    assert!(rt; alone.as_str().lines().any(|line| line == "method flips"));
+    let two = report_by(rt, alloc, places, 2, &OpenGate)?;
+    assert_eq!(rt; two.as_str(), alone.as_str());
+    let eight = report_by(rt, alloc, places, 8, &OpenGate)?;
+    assert_eq!(rt; eight.as_str(), alone.as_str());
+    let many = report_by(rt, alloc, places, 64, &OpenGate)?;
+    assert_eq!(rt; many.as_str(), alone.as_str());
     Ok(())
 }
 
