@@ -1,20 +1,19 @@
 -- A fan at the point that is farthest from the middle of an edge has an inner edge to flip.
 use Rattle.std.proofs.Common.{◌≡◌, ℤ, pos, ◌+ℤ◌, ◌-ℤ◌, ◌*ℤ◌, ◌≤ℤ◌, ◌<ℤ◌, List, [], ◌∷◌, All, arith, ap, refl, inl, inr}
 use Rattle.std.proofs.lemmas.Int.{ints, by_lt_z}
-use Rattle.std.proofs.lemmas.List.Elements.{All-head, All-tail, All-weaker}
+use Rattle.std.proofs.lemmas.List.Elements.{All-cons, All-head, All-nil, All-tail}
 use Rattle.exact_predicates.specs.declared.point.Point.{Point}
-use Rattle.exact_predicates.specs.Plane.{Crosses, orient}
+use Rattle.exact_predicates.specs.Plane.{Crosses, dot, orient}
 use Rattle.exact_predicates.proofs.Barycentric.{barycentric_orient}
 use Rattle.exact_predicates.proofs.HalfPlane.{left_turn_strict}
-use Rattle.exact_predicates.proofs.IntSigns.{mul-nonneg, mul-pos}
+use Rattle.exact_predicates.proofs.IntSigns.{mul-nonneg, mul-pos, square-nonneg}
 use Rattle.exact_predicates.proofs.Orientation.{orient_turned, orient_swapped, orient_swapped_last, orient_four, orient_return, orient_last_twice}
 use Rattle.exact_predicates.proofs.Ring.{var, plus, less, times, ring}
 use Rattle.diamond_theorem.specs.Fans.{IsFan, IsInward, HasFlip, last_of}
 use Rattle.diamond_theorem.specs.Laws.{FansFlip}
 use Rattle.diamond_theorem.proofs.Axis.{across_at, dot_as_orient}
 use Rattle.diamond_theorem.proofs.Discs.{away, power_grows}
-use Rattle.diamond_theorem.proofs.Obtuse.{d2_is_dot}
-use Rattle.diamond_theorem.proofs.Signs.{mul-neg}
+use Rattle.diamond_theorem.proofs.Signs.{mul-neg, mul-zero, zero_square}
 
 -- z lies strictly to the left of the line from e to v
 abbrev Left : Point → Point → Point → Type 0
@@ -24,11 +23,34 @@ Left e v z = pos 0 <ℤ orient e v z
 abbrev beside : Point → Point → Point → Point
 beside a b v = across_at v (away a b v) v
 
-inward_left : (a b v z : Point) → IsInward a b v z → Left (beside a b v) v z
-inward_left a b v z h =
-    let near = h.not_farther in
-    let apart = h.apart in
-    omega (arith, ints, power_grows a b v z, d2_is_dot v z, dot_as_orient v (away a b v) z, orient_swapped (beside a b v) v z)
+inward_left : (a b v z : Point) → IsInward a b v z → pos 0 <ℤ dot v z z → Left (beside a b v) v z
+inward_left a b v z near apart =
+    omega (arith, ints, power_grows a b v z, dot_as_orient v (away a b v) z, orient_swapped (beside a b v) v z)
+
+-- nothing turns from a point at v
+no_turn : (v x y : Point) → dot v x x ≤ℤ pos 0 → orient v x y ≡ pos 0
+unfolding dot orient
+no_turn v x y h =
+    let dx = zero_square (x.x -ℤ v.x) (omega (arith, ints, square-nonneg (x.x -ℤ v.x), square-nonneg (x.y -ℤ v.y))) in
+    let dy = zero_square (x.y -ℤ v.y) (omega (arith, ints, square-nonneg (x.x -ℤ v.x), square-nonneg (x.y -ℤ v.y))) in
+    let m = mul-zero (y.y -ℤ v.y) (x.x -ℤ v.x) dx in
+    let n = mul-zero (y.x -ℤ v.x) (x.y -ℤ v.y) dy in
+    omega (arith, ints)
+
+-- so where two points are seen from v in a turn, both are apart from v
+turn_apart : (v x y : Point) → pos 0 <ℤ orient v x y → (pos 0 <ℤ dot v x x) × (pos 0 <ℤ dot v y y)
+turn_apart v x y turn = (
+  by_lt_z (pos 0) (dot v x x) (λ h. h) (λ h. absurd (omega (arith, ints, no_turn v x y h))),
+  by_lt_z (pos 0) (dot v y y) (λ h. h) (λ h. absurd (omega (arith, ints, no_turn v y x h, orient_swapped_last v x y))),
+)
+
+-- so all points of a fan after its first lie on that side
+fan_left : (a b v x : Point) (ys : List Point) → IsFan v x ys → All (IsInward a b v) ys → All (Left (beside a b v) v) ys
+fan_left a b v x [] fan near = All-nil (Left (beside a b v) v)
+fan_left a b v x (y ∷ ys) fan near =
+    All-cons (Left (beside a b v) v) y ys
+    (inward_left a b v y (All-head (IsInward a b v) y ys near) (turn_apart v x y fan.0).1)
+    (fan_left a b v y ys fan.1 (All-tail (IsInward a b v) y ys near))
 
 -- in a fan on one side of a line through v the last point is to the left of the first
 fan_last : (e v x y : Point) (ys : List Point) → Left e v x → All (Left e v) (y ∷ ys) → IsFan v x (y ∷ ys) → pos 0 <ℤ orient v x (last_of y ys)
@@ -117,9 +139,9 @@ flip_at_top u w e v x y (z ∷ zs) hv hx h fan up deep end =
 pub fans_flip : FansFlip
 fans_flip a b e f v u r [] fan inward hu hw hv hr = absurd (omega (arith, ints))
 fans_flip a b e f v u r (s ∷ ss) fan inward hu hw hv hr =
-    let side = All-weaker (IsInward a b v) (Left (beside a b v) v) (inward_left a b v) (u ∷ r ∷ s ∷ ss) inward in
-    let left_u = All-head (Left (beside a b v) v) u (r ∷ s ∷ ss) side in
-    let rest = All-tail (Left (beside a b v) v) u (r ∷ s ∷ ss) side in
+    let near = All-tail (IsInward a b v) u (r ∷ s ∷ ss) inward in
+    let left_u = inward_left a b v u (All-head (IsInward a b v) u (r ∷ s ∷ ss) inward) (turn_apart v u r fan.0).0 in
+    let rest = fan_left a b v u (r ∷ s ∷ ss) fan near in
     let uw = fan_last (beside a b v) v u r (s ∷ ss) left_u rest fan in
     let r_w = fan_last (beside a b v) v r s ss (All-head (Left (beside a b v) v) r (s ∷ ss) rest) (All-tail (Left (beside a b v) v) r (s ∷ ss) rest) fan.1 in
     let deep = beyond e f v u (last_of s ss) r uw fan.0 r_w hu hw hv hr in

@@ -1,5 +1,5 @@
 -- Where the diamond of a side has a point, a lowest one is a goal: it is alone in its triangle over the side.
-use Rattle.std.proofs.Common.{◌≡◌, ◌⊎◌, ℕ, zero, suc, ◌<◌, List, length, ℤ, pos, negsuc, ◌-ℤ◌, ◌*ℤ◌, ◌≤ℤ◌, ◌<ℤ◌, arith, [], ◌∷◌, ap, subst, sym, ⊎_elim, inl, inr}
+use Rattle.std.proofs.Common.{◌≡◌, ◌⊎◌, ℕ, zero, suc, ◌<◌, List, length, ℤ, pos, ◌-ℤ◌, ◌*ℤ◌, ◌≤ℤ◌, ◌<ℤ◌, arith, [], ◌∷◌, ap, subst, sym, ⊎_elim, inl, inr}
 use Rattle.std.proofs.lemmas.Bool.{cases_eq, cases_lt}
 use Rattle.std.proofs.lemmas.Int.{ints, by_lt_z}
 use Rattle.exact_predicates.specs.declared.point.Point.{Point}
@@ -13,7 +13,7 @@ use Rattle.exact_predicates.proofs.Ring.{var, num, less, times, ring}
 use Rattle.diamond_theorem.specs.Walks.{IsGoal}
 use Rattle.diamond_theorem.proofs.Axis.{barycentric_dot, dot_start}
 use Rattle.diamond_theorem.proofs.Discs.{dot_square}
-use Rattle.diamond_theorem.proofs.Signs.{mul-zero}
+use Rattle.diamond_theorem.proofs.Signs.{mul-zero, zero_square}
 
 diamond_or_not : (a b r : Point) → IsInLeftDiamond a b r ⊎ (¬ IsInLeftDiamond a b r)
 diamond_or_not a b r =
@@ -120,11 +120,6 @@ top_alone a b p r area i high =
     let m2 = mul-zero (dot p r b) (orient p a r) (omega (arith, ints)) in
     let m3 = mul-zero (orient a b r) (dot p r p) (dot_start p r) in
     zero-from-mul (orient a b p) (dot p r r) area (omega (arith, ints, barycentric_dot a b p r p r))
-
-zero_square : (x : ℤ) → (x *ℤ x) ≤ℤ pos 0 → x ≡ pos 0
-zero_square (pos zero) h = omega (arith, ints)
-zero_square (pos (suc n)) h = absurd (omega (arith, ints))
-zero_square (negsuc n) h = absurd (omega (arith, ints))
 
 -- two points at no distance are not in order
 not_in_order : (p r : Point) → dot p r r ≡ pos 0 → ¬ (Precedes p r ⊎ Precedes r p)

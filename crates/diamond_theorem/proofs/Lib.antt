@@ -3,6 +3,7 @@ pub mod Ascents
 pub mod Axis
 pub mod Discs
 pub mod Fans
+pub mod FarthestFlips
 pub mod Goals
 pub mod Heights
 pub mod Long
@@ -15,5 +16,8 @@ pub mod RoundWalks
 pub mod SharedSides
 pub mod Sights
 pub mod Signs
+pub mod SleeveFlips
+pub mod SleeveMirror
 pub mod Steps
+pub mod WalkSleeves
 pub mod Walks

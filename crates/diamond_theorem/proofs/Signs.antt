@@ -1,6 +1,6 @@
 -- Signs of products where a factor is not positive, and of factors by a product. Factors may come in either order: a tactic for
 -- sums takes the two products for one.
-use Rattle.std.proofs.Common.{◌≡◌, ℤ, pos, ◌-ℤ◌, ◌*ℤ◌, ◌≤ℤ◌, ◌<ℤ◌, arith, ap, ◌∙◌, [], ◌∷◌}
+use Rattle.std.proofs.Common.{◌≡◌, zero, suc, ℤ, pos, negsuc, ◌-ℤ◌, ◌*ℤ◌, ◌≤ℤ◌, ◌<ℤ◌, arith, ap, ◌∙◌, [], ◌∷◌}
 use Rattle.std.proofs.lemmas.Int.{ints, by_lt_z}
 use Rattle.std.proofs.Math.IntN.{*ℤ-zero}
 use Rattle.exact_predicates.proofs.IntSigns.{mul-nonneg, mul-pos}
@@ -42,3 +42,9 @@ pos-from-neg a b h k = by_lt_z (pos 0) b (λ l. l) (λ l. let m = mul-both_nonpo
 -- a factor is negative where the other is not negative and the product is negative
 pub neg-from-neg : (a b : ℤ) → pos 0 ≤ℤ a → (a *ℤ b) <ℤ pos 0 → b <ℤ pos 0
 neg-from-neg a b h k = by_lt_z b (pos 0) (λ l. l) (λ l. let m = mul-nonneg a b h l in absurd (omega (arith, ints)))
+
+-- a square that is not positive is that of 0
+pub zero_square : (x : ℤ) → (x *ℤ x) ≤ℤ pos 0 → x ≡ pos 0
+zero_square (pos zero) h = omega (arith, ints)
+zero_square (pos (suc n)) h = absurd (omega (arith, ints))
+zero_square (negsuc n) h = absurd (omega (arith, ints))

@@ -1,7 +1,7 @@
 -- Fans of triangles at a point, and their inner edges.
-use Rattle.std.specs.Prelude.{◌≡◌, ◌<◌, ⊤, List, [], ◌∷◌, ◌++◌, pos, ◌≤ℤ◌, ◌<ℤ◌}
+use Rattle.std.specs.Prelude.{◌≡◌, ⊤, List, [], ◌∷◌, ◌++◌, pos, ◌≤ℤ◌, ◌<ℤ◌}
 use Rattle.exact_predicates.specs.declared.point.Point.{Point}
-use Rattle.exact_predicates.specs.Plane.{Crosses, d2, orient}
+use Rattle.exact_predicates.specs.Plane.{Crosses, orient}
 use Rattle.diamond_theorem.specs.Discs.{power}
 
 -- the points x and then ys are a fan at v: the triangles at v from each to the next are counter-clockwise
@@ -14,10 +14,9 @@ abbrev pub last_of : Point → List Point → Point
 last_of x [] = x
 last_of x (y ∷ ys) = last_of y ys
 
--- z is not farther from the middle of ab than v, and is not v: the power of a point grows with its distance from there
-pub record IsInward (a b v z : Point) : Type 0 where
-  pub not_farther : power a b z ≤ℤ power a b v
-  pub apart : 0 < d2 v z
+-- z is not farther from the middle of ab than v: the power of a point grows with its distance from there
+abbrev pub IsInward : Point → Point → Point → Point → Type 0
+IsInward a b v z = power a b z ≤ℤ power a b v
 
 -- an inner edge of a fan at v can be flipped: where x, y and z follow one another, the edge from v to y crosses that from x to z
 pub record HasFlip (v : Point) (fan : List Point) : Type 0 where

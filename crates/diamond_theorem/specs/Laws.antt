@@ -1,5 +1,5 @@
 -- What is proved so far on the way to the diamond theorem.
-use Rattle.std.specs.Prelude.{◌≡◌, ◌⊎◌, ℕ, ◌+◌, ◌*◌, ◌<◌, List, ◌∷◌, length, All, pos, ◌≤ℤ◌, ◌<ℤ◌}
+use Rattle.std.specs.Prelude.{◌≡◌, ◌≢◌, ◌⊎◌, ℕ, ◌+◌, ◌*◌, ◌<◌, List, [], ◌∷◌, length, All, pos, ◌≤ℤ◌, ◌<ℤ◌}
 use Rattle.exact_predicates.specs.declared.point.Point.{Point}
 use Rattle.exact_predicates.specs.declared.tri.Tri.{Tri}
 use Rattle.exact_predicates.specs.Hull.{IsHull}
@@ -8,8 +8,9 @@ use Rattle.exact_predicates.specs.PointSet.{IsPointSet, point_at}
 use Rattle.exact_predicates.specs.Triangulation.{IsTriangulation}
 use Rattle.diamond_theorem.specs.Discs.{power, IsInDisc}
 use Rattle.diamond_theorem.specs.Fans.{HasFlip, IsFan, IsInward, last_of}
+use Rattle.diamond_theorem.specs.Sleeves.{HasFarthestFlip, IsSleeve}
 use Rattle.diamond_theorem.specs.Steps.{IsLowStep, IsRound, IsStep}
-use Rattle.diamond_theorem.specs.Walks.{AreCrossedOnce, HasTriangle, Walk, steps_after}
+use Rattle.diamond_theorem.specs.Walks.{AreCrossedOnce, Corner, HasTriangle, Walk, steps_after}
 
 -- The diamond of an edge lies in the disc over it.
 abbrev pub DiamondsAreInDiscs : Type 0
@@ -94,3 +95,15 @@ FansFlip =
     (a b e f v u r : Point) (rest : List Point) → IsFan v u (r ∷ rest) → All (IsInward a b v) (u ∷ r ∷ rest)
     → pos 0 ≤ℤ orient e f u → pos 0 ≤ℤ orient e f (last_of r rest) → pos 0 <ℤ orient e f v → orient e f r <ℤ pos 0
     → HasFlip v (u ∷ r ∷ rest)
+
+-- The corners of a walk are those of a sleeve from ab to its last corner.
+abbrev pub WalksAreSleeves : Type 0
+WalksAreSleeves =
+    (ps : List Point) (hull : List ℕ) (tris : List Tri) (a b : ℕ) → IsTriangulation ps hull tris
+    → (w : Walk ps tris a b) → IsSleeve (point_at ps) a b w.corners w.last
+
+-- Of each sleeve with corners a step at the farthest corner can be flipped.
+abbrev pub SleevesFlip : Type 0
+SleevesFlip =
+    (at : ℕ → Point) (a b q : ℕ) (corners : List Corner) → IsSleeve at a b corners q → corners ≢ []
+    → HasFarthestFlip at a b corners q

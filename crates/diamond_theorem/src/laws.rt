@@ -1,5 +1,5 @@
 // The laws of the crate, as contracts of functions that do nothing.
-ghost use Rattle.diamond_theorem.specs.Laws.{DiamondsAreInDiscs, DiscsAreConvex, FansFlip, StepsAreLong, StepsAreLongerThanMiddle, StepsAreLow, StepsAreSeenObtuse, StepsGoOn, StepsGoRound, WalksCrossOnce, WalksExist, WalksGoRound};
+ghost use Rattle.diamond_theorem.specs.Laws.{DiamondsAreInDiscs, DiscsAreConvex, FansFlip, SleevesFlip, StepsAreLong, StepsAreLongerThanMiddle, StepsAreLow, StepsAreSeenObtuse, StepsGoOn, StepsGoRound, WalksAreSleeves, WalksCrossOnce, WalksExist, WalksGoRound};
 
 /// The laws of the disc over an edge, which has the edge for its diameter. The diamond of the edge lies
 /// in it, and it is convex. It does nothing: its contract says them.
@@ -36,8 +36,11 @@ pub fn length_laws()
     ensures longer_than_middle { StepsAreLongerThanMiddle }
 {}
 
-/// The law of the fan at the corner of a walk that is farthest from the middle of the edge: it has an
-/// inner edge that can be flipped. It does nothing: its contract says it.
-pub fn fan_laws()
-    ensures { FansFlip }
+/// The laws of flips in a sleeve, which the triangles of a walk are. A fan at a point, of points that are
+/// not farther from the middle of the edge, has an inner edge that can be flipped; so at the farthest
+/// corner of a sleeve a step can be. It does nothing: its contract says them.
+pub fn sleeve_laws()
+    ensures walk { WalksAreSleeves }
+    ensures fan { FansFlip }
+    ensures flip { SleevesFlip }
 {}

@@ -3,4 +3,4 @@
 
 mod laws;
 
-pub use laws::{disc_laws, fan_laws, length_laws, step_laws, walk_laws};
+pub use laws::{disc_laws, length_laws, sleeve_laws, step_laws, walk_laws};
